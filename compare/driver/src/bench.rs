@@ -1,0 +1,66 @@
+//! The benchmark: time for each call of the library's function and of its reference.
+
+use std::hint::black_box;
+use std::time::Instant;
+
+use crate::functions::{Function, Pair, Sides};
+use crate::inputs::Draw;
+
+const INPUTS: usize = 4096;
+const PASSES: usize = 64;
+const ROUNDS: usize = 25;
+const SEED: u64 = 1;
+
+/// Prints the times of each function. Both sides are called through a pointer.
+pub fn run(functions: &[Function]) {
+    let inputs = ordinary_inputs();
+    println!("ns per call, best of {ROUNDS} rounds: library, Rust, ratio");
+    for function in functions {
+        let (library, reference) = match &function.sides {
+            Sides::Number(f) => best(&inputs, f, |f, x, _| f(x)),
+            Sides::NumberOfTwo(f) => best(&inputs, f, |f, x, y| f(x, y)),
+            Sides::Truth(f) => best(&inputs, f, |f, x, _| f(x)),
+            Sides::TruthOfTwo(f) => best(&inputs, f, |f, x, y| f(x, y)),
+            Sides::Whole(f) => best(&inputs, f, |f, x, _| f(x)),
+        };
+        let ratio = library / reference;
+        println!(
+            "{}: {library:.2}, {reference:.2}, {ratio:.2}",
+            function.name
+        );
+    }
+}
+
+/// Numbers of ordinary size, every fourth a whole one.
+fn ordinary_inputs() -> Vec<(f64, f64)> {
+    let mut draw = Draw::new(SEED);
+    let mut number = |i: usize| {
+        let x = draw.uniform(1000.0);
+        if i.is_multiple_of(4) { x.trunc() } else { x }
+    };
+    (0..INPUTS).map(|i| (number(i), number(i + 1))).collect()
+}
+
+/// The least time for a call of each side, the rounds of the two in turn.
+fn best<F: Copy, A>(
+    inputs: &[(f64, f64)],
+    pair: &Pair<F>,
+    call: impl Fn(F, f64, f64) -> A,
+) -> (f64, f64) {
+    let round = |function: F| {
+        let function = black_box(function);
+        let start = Instant::now();
+        for _ in 0..PASSES {
+            for &(x, y) in inputs {
+                black_box(call(function, x, y));
+            }
+        }
+        start.elapsed().as_nanos() as f64 / (PASSES * inputs.len()) as f64
+    };
+    let (mut library, mut reference) = (f64::INFINITY, f64::INFINITY);
+    for _ in 0..ROUNDS {
+        library = library.min(round(pair.library));
+        reference = reference.min(round(pair.reference));
+    }
+    (library, reference)
+}

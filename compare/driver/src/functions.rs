@@ -1,0 +1,85 @@
+//! Functions of one or two numbers: the library's side and the Rust's, and what is done with them.
+
+use crate::comparing::Tally;
+use crate::inputs;
+
+/// A function of the library with its reference.
+pub struct Function {
+    /// Its number in the stored answers.
+    pub number: u64,
+    pub name: &'static str,
+    pub sides: Sides,
+}
+
+/// Both sides of a function. A truth value is a byte, so that one other than 0 and 1 would show.
+pub enum Sides {
+    Number(Pair<extern "C" fn(f64) -> f64>),
+    NumberOfTwo(Pair<extern "C" fn(f64, f64) -> f64>),
+    Truth(Pair<extern "C" fn(f64) -> u8>),
+    TruthOfTwo(Pair<extern "C" fn(f64, f64) -> u8>),
+    Whole(Pair<extern "C" fn(f64) -> i32>),
+}
+
+pub struct Pair<F> {
+    pub library: F,
+    pub reference: F,
+}
+
+impl Function {
+    pub const fn new(number: u64, name: &'static str, sides: Sides) -> Self {
+        Function {
+            number,
+            name,
+            sides,
+        }
+    }
+
+    /// Whether it takes two numbers.
+    pub fn takes_two(&self) -> bool {
+        matches!(self.sides, Sides::NumberOfTwo(_) | Sides::TruthOfTwo(_))
+    }
+
+    /// A seed of its own, so that its inputs do not depend on the other functions.
+    pub fn seed(&self, seed: u64) -> u64 {
+        seed ^ (self.number << 32)
+    }
+
+    /// Compares both sides over `count` inputs.
+    pub fn compare(&self, tally: &mut Tally, count: usize, seed: u64) {
+        let seed = self.seed(seed);
+        let name = self.name;
+        let numbers = inputs::numbers(count, seed);
+        match &self.sides {
+            Sides::Number(f) => {
+                tally.compare(name, numbers, |&x| (f.library)(x), |&x| (f.reference)(x));
+            }
+            Sides::Truth(f) => {
+                tally.compare(name, numbers, |&x| (f.library)(x), |&x| (f.reference)(x));
+            }
+            Sides::Whole(f) => {
+                tally.compare(name, numbers, |&x| (f.library)(x), |&x| (f.reference)(x));
+            }
+            Sides::NumberOfTwo(f) => {
+                let pairs = inputs::pairs(count, seed);
+                let library = |&(x, y): &(f64, f64)| (f.library)(x, y);
+                tally.compare(name, pairs, library, |&(x, y)| (f.reference)(x, y));
+            }
+            Sides::TruthOfTwo(f) => {
+                let pairs = inputs::pairs(count, seed);
+                let library = |&(x, y): &(f64, f64)| (f.library)(x, y);
+                tally.compare(name, pairs, library, |&(x, y)| (f.reference)(x, y));
+            }
+        }
+    }
+
+    /// The reference's answer as a number; `y` is left out by functions of one number.
+    pub fn reference(&self, x: f64, y: f64) -> f64 {
+        match &self.sides {
+            Sides::Number(f) => (f.reference)(x),
+            Sides::NumberOfTwo(f) => (f.reference)(x, y),
+            Sides::Truth(f) => f64::from((f.reference)(x)),
+            Sides::TruthOfTwo(f) => f64::from((f.reference)(x, y)),
+            Sides::Whole(f) => f64::from((f.reference)(x)),
+        }
+    }
+}

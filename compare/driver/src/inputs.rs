@@ -1,0 +1,180 @@
+//! The inputs: edge inputs with their neighbours, and random ones.
+
+/// Numbers above zero at which a function may change its course. Each is taken with both signs.
+#[rustfmt::skip]
+const EDGES: [f64; 76] = [
+    // ends of the range, and one
+    f64::INFINITY, f64::MAX, f64::MIN_POSITIVE, 2.225073858507201e-308, 5e-324, 1.0,
+    // halves
+    0.5, 1.5, 2.5, 3.5, 10.5, 19.5, 999.5, 2147483646.5, 2147483647.5, 2147483648.5,
+    // whole numbers of all sizes
+    2.0, 3.0, 4.0, 5.0, 6.0, 7.0, 8.0, 16.0, 32.0, 100.0, 171.0, 172.0, 255.0, 256.0, 1023.0,
+    65535.0, 65536.0, 1e6, 16777216.0, 1073741824.0, 2147483647.0, 2147483648.0, 2147483649.0,
+    4294967295.0, 4294967296.0, 1e15, 2251799813685248.0, 4503599627370496.0, 9007199254740991.0,
+    9007199254740992.0, 18014398509481984.0, 4611686018427387904.0, 9223372036854775808.0,
+    18446744073709551616.0, 1e22, 1e100, 1e300,
+    // limits that the source and the scope paper test
+    5.8, 7.5, 10.0, 13.0, 20.0, 250.0, 999.0, 1000.0, 1001.0, 1024.0, 1080.0, 1400.0, 1e9,
+    709.782712893384, 745.2, 1e-12, 1e-15, 1e-17, 1e-30, 1e-40, 1e-150,
+    std::f64::consts::SQRT_2, 0.49999999999999994,
+];
+
+/// NaNs of both signs, quiet and signalling.
+const NANS: [u64; 4] = [
+    0x7ff8_0000_0000_0000,
+    0xfff8_0000_0000_0001,
+    0x7ff0_0000_0000_0001,
+    0xffff_ffff_ffff_ffff,
+];
+
+/// The edge inputs: zeros and NaNs first, then the ends of the range, then the others.
+pub fn edges() -> Vec<f64> {
+    let mut edges = vec![0.0, -0.0];
+    edges.extend(NANS.map(f64::from_bits));
+    edges.extend(EDGES.iter().flat_map(|&edge| [edge, -edge]));
+    edges
+}
+
+/// An edge input itself, and those one last place, a half and one away from it.
+fn neighbours(edge: f64) -> [f64; 7] {
+    [
+        edge,
+        edge.next_up(),
+        edge.next_down(),
+        edge + 0.5,
+        edge - 0.5,
+        edge + 1.0,
+        edge - 1.0,
+    ]
+}
+
+/// All pairs of the first `many` edge inputs.
+pub fn edge_pairs(many: usize) -> Vec<(f64, f64)> {
+    let edges = edges();
+    let edges = &edges[..many.min(edges.len())];
+    let pairs_of = |&x: &f64| edges.iter().map(move |&y| (x, y));
+    edges.iter().flat_map(pairs_of).collect()
+}
+
+/// `count` inputs: all edge inputs with their neighbours, then drawn ones.
+pub fn numbers(count: usize, seed: u64) -> impl Iterator<Item = f64> {
+    let mut draw = Draw::new(seed);
+    let first = edges().into_iter().flat_map(neighbours);
+    first
+        .chain(std::iter::repeat_with(move || draw.number()))
+        .take(count)
+}
+
+/// `count` inputs: all pairs of edge inputs, then drawn ones.
+pub fn pairs(count: usize, seed: u64) -> impl Iterator<Item = (f64, f64)> {
+    let mut draw = Draw::new(seed);
+    let first = edge_pairs(usize::MAX).into_iter();
+    first
+        .chain(std::iter::repeat_with(move || draw.pair()))
+        .take(count)
+}
+
+/// Draws inputs from a seed, with the generator splitmix64.
+pub struct Draw {
+    state: u64,
+    edges: Vec<f64>,
+}
+
+impl Draw {
+    pub fn new(seed: u64) -> Self {
+        let edges = edges();
+        Draw { state: seed, edges }
+    }
+
+    fn bits(&mut self) -> u64 {
+        self.state = self.state.wrapping_add(0x9e37_79b9_7f4a_7c15);
+        let mut bits = self.state;
+        bits = (bits ^ (bits >> 30)).wrapping_mul(0xbf58_476d_1ce4_e5b9);
+        bits = (bits ^ (bits >> 27)).wrapping_mul(0x94d0_49bb_1331_11eb);
+        bits ^ (bits >> 31)
+    }
+
+    fn below(&mut self, limit: usize) -> usize {
+        (self.bits() % limit as u64) as usize
+    }
+
+    /// Evenly spread between −size and size.
+    pub fn uniform(&mut self, size: f64) -> f64 {
+        let unit = (self.bits() >> 11) as f64 / 9007199254740992.0;
+        (2.0 * unit - 1.0) * size
+    }
+
+    /// A whole number of 1 to 63 bits, of either sign.
+    fn whole(&mut self) -> f64 {
+        let width = 1 + self.below(63);
+        let size = (self.bits() >> (64 - width)) as f64;
+        if self.below(2) == 0 { size } else { -size }
+    }
+
+    /// Half of them edge inputs or their neighbours, the others random.
+    pub fn number(&mut self) -> f64 {
+        match self.below(16) {
+            0..8 => {
+                let edge = self.below(self.edges.len());
+                neighbours(self.edges[edge])[self.below(7)]
+            }
+            8..10 => f64::from_bits(self.bits()),
+            10 => self.uniform(10.0),
+            11 => self.uniform(1000.0),
+            12 => self.uniform(3e9),
+            13 => self.whole(),
+            14 => self.whole() + 0.5,
+            _ => {
+                let whole = self.whole().to_bits();
+                f64::from_bits(whole.wrapping_add(self.below(9) as u64).wrapping_sub(4))
+            }
+        }
+    }
+
+    /// A quarter of them equal, negated or neighbours, the others drawn one by one.
+    pub fn pair(&mut self) -> (f64, f64) {
+        let x = self.number();
+        match self.below(16) {
+            0 => (x, x),
+            1 => (x, -x),
+            2 => (x, x.next_up()),
+            3 => (x.next_up(), x),
+            _ => (x, self.number()),
+        }
+    }
+}
+
+#[cfg(test)]
+mod tests {
+    use super::{Draw, edges, numbers, pairs};
+
+    #[test]
+    fn the_seed_fixes_the_inputs() {
+        let bits = |seed| -> Vec<u64> { numbers(5000, seed).map(f64::to_bits).collect() };
+        assert_eq!(bits(1), bits(1));
+        assert_ne!(bits(1), bits(2));
+    }
+
+    #[test]
+    fn the_generator_is_splitmix64() {
+        let mut draw = Draw::new(1234567);
+        let first = [draw.bits(), draw.bits(), draw.bits()];
+        let expected = [
+            6457827717110365317,
+            3203168211198807973,
+            9817491932198370423,
+        ];
+        assert_eq!(first, expected);
+    }
+
+    #[test]
+    fn edges_stand_once_and_the_count_is_kept() {
+        let mut bits: Vec<u64> = edges().into_iter().map(f64::to_bits).collect();
+        let length = bits.len();
+        bits.sort_unstable();
+        bits.dedup();
+        assert_eq!(bits.len(), length);
+        assert_eq!(numbers(7, 1).count(), 7);
+        assert_eq!(pairs(100_000, 1).count(), 100_000);
+    }
+}

@@ -1,0 +1,79 @@
+// Replays the stored answers of the compared Rust (data/, written by compare/store) and compares bits.
+
+mod floats_answer;
+mod record;
+
+ghost use mathlib.Core.Path.{_≡_};
+ghost use Prim.Native.Nat.{_/_};
+ghost use lib.ListN.{length};
+use libc::STDOUT_FILENO;
+
+// How many records were replayed, and how many of them differ.
+pub struct Tally {
+    pub records: u64,
+    pub differences: u64,
+}
+
+// Every record of s, 32 bytes each. What is left over is no record and counts as a difference.
+fn replay(s: &[u8]) -> Tally
+    ensures { λ r. ⌜ r .records ≡ length (now (s .entry)) / 32 ⌝ }
+{
+    let mut records: u64 = 0;
+    let mut differences: u64 = 0;
+    let mut at = 0;
+    while 32 <= s.len() - at {
+        let end = at + 32;
+        let same = floats_answer::is_alike(&s[at..end]);
+        differences = std::num::wrapping_add_u64(differences, (!same) as u64);
+        records += 1;
+        at = end;
+    }
+    let rest = (at < s.len()) as u64;
+    Tally {
+        records: records,
+        differences: std::num::wrapping_add_u64(differences, rest),
+    }
+}
+
+// The next records of the file, as many as one buffer holds, and none at its end.
+fn replay_some(fd: i32) -> Tally {
+    let mut buf = io::large_buffer();
+    let n = io::read_full(fd, &mut buf);
+    replay(&buf[..n])
+}
+
+// Every record of the file, up to 4,096 buffers of them.
+fn replay_all(fd: i32) -> Tally {
+    let mut records: u64 = 0;
+    let mut differences: u64 = 0;
+    let mut turns: u32 = 4096;
+    while turns > 0 {
+        let t = replay_some(fd);
+        records = std::num::wrapping_add_u64(records, t.records);
+        differences = std::num::wrapping_add_u64(differences, t.differences);
+        turns -= 1;
+        if t.records == 0 {
+            turns = 0;
+        }
+    }
+    Tally {
+        records: records,
+        differences: differences,
+    }
+}
+
+fn main() {
+    let path = b"floats.bin";
+    let fd = os::open_read(path);
+    if fd < 0 {
+        os::fail(path);
+        return;
+    }
+    let t = replay_all(fd);
+    libc::close(fd);
+    io::write_all(STDOUT_FILENO, b"floats: ");
+    io::print_decimal(STDOUT_FILENO, t.records);
+    io::write_all(STDOUT_FILENO, b" answers, ");
+    io::print_decimal(STDOUT_FILENO, t.differences);
+    io::write_all(STDOUT_FILENO, b" differences\n");
+}

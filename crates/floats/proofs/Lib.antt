@@ -1,0 +1,12 @@
+pub mod Tests
+pub mod Values
+pub mod Arithmetic
+pub mod Comparison
+pub mod Rounding
+pub mod Monotone
+pub mod Wholes
+pub mod Parts
+pub mod Signs
+pub mod Cuts
+pub mod Truncation
+pub mod Edges

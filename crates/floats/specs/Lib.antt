@@ -1,0 +1,3 @@
+pub mod Operations
+pub mod Functions
+pub mod Facts

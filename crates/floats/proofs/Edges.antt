@@ -6,7 +6,7 @@ use lib.IntN.{pos, negsuc}
 use lib.Ieee.{Float, nan, inf, fin, neg, sub, lt, isNan, ofBits, round, toSigned}
 use lib.Ieee.Exact.{HasValue}
 use Rattle.floats.specs.Functions.{absolute, truncated, fraction, lesser, greater, signOf}
-use Rattle.floats.specs.Operations.{f0, f1, bits}
+use Rattle.floats.specs.Operations.{f0, f½, f1, bits}
 
 -- "Minimum and maximum give the other operand where one is NaN."
 pub other-operand : (a : Float) → (lesser nan a ≡ a) × (lesser a nan ≡ a) × (greater nan a ≡ a) × (greater a nan ≡ a)
@@ -27,9 +27,9 @@ pub edges :
     (absolute (neg f0) ≡ f0)
     × (signOf (neg f0) ≡ neg f1)
     × (signOf f0 ≡ f1)
-    × (truncated (neg (bits 0x3fe0_0000_0000_0000)) ≡ neg f0)
+    × (truncated (neg f½) ≡ neg f0)
     × (truncated (neg (bits 0x3ff8_0000_0000_0000)) ≡ neg f1)
-    × (fraction (neg (bits 0x3ff8_0000_0000_0000)) ≡ neg (bits 0x3fe0_0000_0000_0000))
+    × (fraction (neg (bits 0x3ff8_0000_0000_0000)) ≡ neg f½)
     × (toSigned 31 (neg (bits 0x3ff8_0000_0000_0000)) ≡ negsuc 0)
     × (toSigned 31 (inf false) ≡ pos 2147483647)
     × (toSigned 31 (inf true) ≡ negsuc 2147483647)

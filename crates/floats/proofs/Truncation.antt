@@ -160,7 +160,7 @@ module _ (m : ℕ) (e : ℤ) (small : lt (fin false m e) limit ≡ true) where
 
 -- ---- what the tests of the program say
 
-pub past-whole : (y : Float) → lt f0 y ≡ true → lt y (wholeFrom) ≡ true → lt y (y ⊕ wholeFrom ⊖ wholeFrom) ≡ true
+pub past-whole : (y : Float) → lt f0 y ≡ true → lt y wholeFrom ≡ true → lt y (y ⊕ wholeFrom ⊖ wholeFrom) ≡ true
     → y ⊕ wholeFrom ⊖ wholeFrom ⊖ f1 ≡ truncated y
 unfolding ofBits lt
 past-whole nan p q h = absurd (subst T (sym p) tt)
@@ -169,7 +169,7 @@ past-whole (inf false) p q h = absurd (subst T (sym q) tt)
 past-whole (fin true m e) p q h = absurd (subst T (sym p) tt)
 past-whole (fin false m e) p q h = less-one m e q h
 
-pub not-past-whole : (y : Float) → lt f0 y ≡ true → lt y (wholeFrom) ≡ true → lt y (y ⊕ wholeFrom ⊖ wholeFrom) ≡ false
+pub not-past-whole : (y : Float) → lt f0 y ≡ true → lt y wholeFrom ≡ true → lt y (y ⊕ wholeFrom ⊖ wholeFrom) ≡ false
     → y ⊕ wholeFrom ⊖ wholeFrom ≡ truncated y
 unfolding ofBits lt
 not-past-whole nan p q h = absurd (subst T (sym p) tt)
@@ -203,7 +203,7 @@ above-zero m e = lt-at (fin false 0 (pos 0)) (fin false m e) false 0 false (m * 
 below-zero : (s : Bool) (m : ℕ) (e : ℤ) → lt (fin s m e) (fin false 0 (pos 0)) ≡ below s (m * up e) false 0
 below-zero s m e = lt-at (fin s m e) (fin false 0 (pos 0)) s (m * up e) false 0 (down e) (down-pos e) (own-value s m e) (zero-value (down e))
 
-pub large-above : (x : Float) → T (fits binary64 x) → lt f0 x ≡ true → lt x (wholeFrom) ≡ false → x ≡ truncated x
+pub large-above : (x : Float) → T (fits binary64 x) → lt f0 x ≡ true → lt x wholeFrom ≡ false → x ≡ truncated x
 unfolding ofBits truncated lt
 large-above nan p q h = refl
 large-above (inf s) p q h = refl
@@ -235,7 +235,7 @@ turned-above (fin false m e) h = let k = ltb-true (m * up e) 0 (sym (below-zero 
 turned-above (fin true m e) h = let k = ltb-true 0 (m * up e + 0) (sym (below-zero true m e) ∙ h) in above-zero m e
     ∙ lt-ltb 0 (m * up e) (omega arith)
 
-pub turned-below : (x : Float) → lt x f0 ≡ true → lt (neg wholeFrom) x ≡ true → lt (neg x) (wholeFrom) ≡ true
+pub turned-below : (x : Float) → lt x f0 ≡ true → lt (neg wholeFrom) x ≡ true → lt (neg x) wholeFrom ≡ true
 unfolding ofBits lt neg
 turned-below nan p h = h
 turned-below (inf true) p h = h

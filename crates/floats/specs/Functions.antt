@@ -1,4 +1,4 @@
--- The small functions that every f64 has an answer of (01, "Elementary functions, the lowest layer", last two lines; IEEE 754; Rust's methods of the same names).
+-- The small functions, each with an answer for every f64 (01, "Elementary functions, the lowest layer", last line; IEEE 754; the Rust methods named).
 -- The cast to i32 is the library's `toSigned 31`: cut towards zero, saturating, and 0 for a NaN. The NaN test is its `isNan`.
 use Prim.Native.Nat.{_*_, _/_}
 use mathlib.Core.Bool.{Bool, true, false, not, _&&_, cond}

@@ -48,6 +48,14 @@ pub f0-is : f0 ≡ decimal 0 0
 unfolding decimal ofBits
 f0-is = refl
 
+-- 0.5
+abbrev pub f½ : Float
+f½ = bits 0x3fe0_0000_0000_0000
+
+pub f½-is : f½ ≡ decimal 5 1
+unfolding decimal ofBits
+f½-is = refl
+
 -- 1
 abbrev pub f1 : Float
 f1 = bits 0x3ff0_0000_0000_0000

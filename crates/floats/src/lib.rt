@@ -1,4 +1,4 @@
-// The small functions on f64 that every layer uses. Each answers every f64; none has a `requires`.
+// The small functions on f64 that every layer uses. Each public one answers every f64.
 
 ghost use mathlib.Core.Path.{_≡_};
 ghost use mathlib.Core.Bool.{true};
@@ -36,6 +36,7 @@ pub fn is_nan(x: f64) -> bool
     x != x
 }
 
+// Whether x is one of the two infinities.
 pub fn is_infinite(x: f64) -> bool
     ensures { λ r. ⌜ r ≡ infinite x ⌝ }
 {
@@ -62,7 +63,7 @@ pub fn to_i32(x: f64) -> i32
 // The whole part of y. The sum is rounded to a whole number, next to 2^52 + y on one side or the other.
 fn whole_part(y: f64) -> f64
     requires above { ⌜ lt f0 y ≡ true ⌝ }
-    requires below { ⌜ lt y (wholeFrom) ≡ true ⌝ }
+    requires below { ⌜ lt y wholeFrom ≡ true ⌝ }
     ensures { λ r. ⌜ r ≡ truncated y ⌝ }
 {
     let near = y + 4503599627370496.0 - 4503599627370496.0;

@@ -1,10 +1,13 @@
--- data/floats.bin: which function a number stands for.
-use Prim.Native.Nat.{ℕ}
+-- data/floats.bin (README.md): which function a number stands for, and which records differ.
+use Prim.Native.Nat.{ℕ, zero, suc, _+_, _*_, _%_}
 use mathlib.Core.Bool.{Bool, cond}
+use mathlib.Core.List.{List}
+use lib.ListN.{length, take, drop}
 use lib.Dec.{eqb}
 use lib.Ieee.{Float, nan, isNan, toSigned}
 use Rattle.floats.specs.Functions.{alike, absolute, infinite, truncated, fraction, lesser, greater, signOf}
-use Rattle.floats.specs.Operations.{float, f0, f1}
+use Rattle.answers.specs.Words.{wordAt}
+use Rattle.floats.specs.Operations.{bits, float, f0, f1}
 
 -- a bool as a float: 1 or 0
 abbrev pub truth : Bool → Float
@@ -23,3 +26,20 @@ answer n x y =
     (cond (eqb n 8) (greater x y)
     (cond (eqb n 9) (signOf x)
     (cond (eqb n 10) (truth (alike x y)) nan)))))))))
+
+-- whether the function of a record answers what the record holds
+unfoldable pub held : List ℕ → Bool
+held s = alike (answer (wordAt s 0) (bits (wordAt s 8)) (bits (wordAt s 16))) (bits (wordAt s 24))
+
+-- 1 where a test failed
+abbrev pub missed : Bool → ℕ
+missed b = cond b 0 1
+
+-- how many of the first n records of s differ
+unfoldable pub differing : List ℕ → ℕ → ℕ
+differing s zero = 0
+differing s (suc n) = differing s n + missed (held (take 32 (drop (32 * n) s)))
+
+-- 1 where s has bytes left over after its last whole record
+abbrev pub leftOver : List ℕ → ℕ
+leftOver s = missed (eqb (length s % 32) 0)

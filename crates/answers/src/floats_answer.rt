@@ -1,10 +1,7 @@
 // A record of data/floats.bin: the number of a function of `floats`, x, y and the answer.
 
 ghost use mathlib.Core.Path.{_≡_};
-ghost use mathlib.Core.Bool.{true};
-ghost use lib.Ieee.{ofBits, binary64};
-ghost use Rattle.answers.specs.Floats.{answer, truth};
-ghost use Rattle.answers.specs.Words.{wordAt};
+ghost use Rattle.answers.specs.Floats.{answer, held, truth};
 use crate::record::number;
 use crate::record::word;
 
@@ -34,9 +31,9 @@ fn answer_of(n: u64, x: f64, y: f64) -> f64
     }
 }
 
-// Whether a record of 32 bytes holds what the function answers.
+// Whether the function of a record answers what the record holds.
 pub fn is_alike(s: &[u8]) -> bool
-    ensures { λ r. ⌜ (r ≡ true → answer (wordAt (now (s .entry)) 0) (ofBits binary64 (wordAt (now (s .entry)) 8)) (ofBits binary64 (wordAt (now (s .entry)) 16)) ≡ ofBits binary64 (wordAt (now (s .entry)) 24)) ⌝ }
+    ensures { λ r. ⌜ r ≡ held (now (s .entry)) ⌝ }
 {
     floats::alike(
         answer_of(word(s, 0), number(s, 8), number(s, 16)),

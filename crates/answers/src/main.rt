@@ -4,8 +4,9 @@ mod floats_answer;
 mod record;
 
 ghost use mathlib.Core.Path.{_≡_};
-ghost use Prim.Native.Nat.{_/_};
+ghost use Prim.Native.Nat.{_+_, _/_};
 ghost use lib.ListN.{length};
+ghost use Rattle.answers.specs.Floats.{differing, leftOver, missed};
 use libc::STDOUT_FILENO;
 
 // How many records were replayed, and how many of them differ.
@@ -14,35 +15,42 @@ pub struct Tally {
     pub differences: u64,
 }
 
+// 1 where a test failed.
+fn one_unless(passed: bool) -> u64
+    ensures { λ r. ⌜ r ≡ missed passed ⌝ }
+{
+    if passed { 0 } else { 1 }
+}
+
 // Every record of s, 32 bytes each. What is left over is no record and counts as a difference.
 fn replay(s: &[u8]) -> Tally
-    ensures { λ r. ⌜ r .records ≡ length (now (s .entry)) / 32 ⌝ }
+    ensures all { λ r. ⌜ r .records ≡ length (now (s .entry)) / 32 ⌝ }
+    ensures counted { λ r. ⌜ r .differences ≡ differing (now (s .entry)) (length (now (s .entry)) / 32) + leftOver (now (s .entry)) ⌝ }
 {
     let mut records: u64 = 0;
     let mut differences: u64 = 0;
     let mut at = 0;
     while 32 <= s.len() - at {
         let end = at + 32;
-        let same = floats_answer::is_alike(&s[at..end]);
-        differences = std::num::wrapping_add_u64(differences, (!same) as u64);
+        differences += one_unless(floats_answer::is_alike(&s[at..end]));
         records += 1;
         at = end;
     }
-    let rest = (at < s.len()) as u64;
+    let rest = one_unless(s.len() % 32 == 0);
     Tally {
         records: records,
-        differences: std::num::wrapping_add_u64(differences, rest),
+        differences: differences + rest,
     }
 }
 
-// The next records of the file, as many as one buffer holds, and none at its end.
+// The next records of the file, as many as one buffer holds, and none at its end. No contract can say what is read.
 fn replay_some(fd: i32) -> Tally {
     let mut buf = io::large_buffer();
     let n = io::read_full(fd, &mut buf);
     replay(&buf[..n])
 }
 
-// Every record of the file, up to 4,096 buffers of them.
+// The sums over the file, up to 4,096 buffers of it.
 fn replay_all(fd: i32) -> Tally {
     let mut records: u64 = 0;
     let mut differences: u64 = 0;

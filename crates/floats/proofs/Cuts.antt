@@ -23,61 +23,61 @@ unfolding le
 lt→le x y t = or-l (lt x y) (eq x y) t
 
 -- A float between two whole numbers that lie in an i64's range: what `truncating_f64_to_i64` asks
-pub reach : (a i b j : ℕ) → a * 2 ^ i ≤ 2 ^ 63 → b * 2 ^ j ≤ 2 ^ 63 → (x : Float) → lt x (fin false a (pos i)) ≡ true
+pub in-i64 : (a i b j : ℕ) → a * 2 ^ i ≤ 2 ^ 63 → b * 2 ^ j ≤ 2 ^ 63 → (x : Float) → lt x (fin false a (pos i)) ≡ true
     → lt (fin true b (pos j)) x ≡ true
     → T (le (fin true 1 (pos 63)) x) × T (lt x (fin false 1 (pos 63)))
 unfolding lt
-reach a i b j ha hb nan p q = absurd (subst T (sym p) tt)
-reach a i b j ha hb (inf true) p q = absurd (subst T (sym q) tt)
-reach a i b j ha hb (inf false) p q = absurd (subst T (sym p) tt)
-reach a i b j ha hb (fin false m e) p q =
+in-i64 a i b j ha hb nan p q = absurd (subst T (sym p) tt)
+in-i64 a i b j ha hb (inf true) p q = absurd (subst T (sym q) tt)
+in-i64 a i b j ha hb (inf false) p q = absurd (subst T (sym p) tt)
+in-i64 a i b j ha hb (fin false m e) p q =
     let d = down-pos e in
     let h = ltb-true (m * up e * 1) (a * 2 ^ i * down e) p in
     let k = mul-le-mul-right (down e) ha in
     (lt→le (fin true 1 (pos 63)) (fin false m e) (lt→ltb 0 (2 ^ 63 * down e + m * up e * 1) (omega arith)), lt→ltb (m * up e * 1) (2 ^ 63 * down e) (omega arith))
-reach a i b j ha hb (fin true m e) p q =
+in-i64 a i b j ha hb (fin true m e) p q =
     let d = down-pos e in
     let h = ltb-true (m * up e * 1) (b * 2 ^ j * down e) q in
     let k = mul-le-mul-right (down e) hb in
     (lt→le (fin true 1 (pos 63)) (fin true m e) (lt→ltb (m * up e * 1) (2 ^ 63 * down e) (omega arith)), lt→ltb 0 (m * up e * 1 + 2 ^ 63 * down e) (omega arith))
 
 -- a float that an i32 holds is the same as an i64
-pub inside : (x : Float) → lt x (fin false 1 (pos 31)) ≡ true → lt (fin true 2147483649 (pos 0)) x ≡ true → toSigned 63 x ≡ toSigned 31 x
+pub in-i32 : (x : Float) → lt x (fin false 1 (pos 31)) ≡ true → lt (fin true 2147483649 (pos 0)) x ≡ true → toSigned 63 x ≡ toSigned 31 x
 unfolding lt toSigned
-inside nan p q = cc
-inside (inf true) p q = cc
-inside (inf false) p q = cc
-inside (fin false m e) p q =
+in-i32 nan p q = cc
+in-i32 (inf true) p q = cc
+in-i32 (inf false) p q = cc
+in-i32 (fin false m e) p q =
     let k = under (m * up e) (down e) 2147483648 (down-pos e) p in
     let r : min (m * up e / down e) 9223372036854775807 ≡ min (m * up e / down e) 2147483647 = omega arith in
     ap pos r
-inside (fin true m e) p q =
+in-i32 (fin true m e) p q =
     let k = under (m * up e) (down e) 2147483649 (down-pos e) q in
     let r : min (m * up e / down e) 9223372036854775808 ≡ min (m * up e / down e) 2147483648 = omega arith in
     rw r
 
-pub too-high : (x : Float) → lt x (fin false 1 (pos 31)) ≡ false → ne x x ≡ false → toSigned 31 x ≡ pos 2147483647
+pub above-i32 : (x : Float) → lt x (fin false 1 (pos 31)) ≡ false → ne x x ≡ false → toSigned 31 x ≡ pos 2147483647
 unfolding lt ne toSigned
-too-high nan p q = cc
-too-high (inf true) p q = cc
-too-high (inf false) p q = refl
-too-high (fin false m e) p q =
+above-i32 nan p q = cc
+above-i32 (inf true) p q = cc
+above-i32 (inf false) p q = refl
+above-i32 (fin false m e) p q =
     let k = over (m * up e) (down e) 2147483648 (down-pos e) p in
     let r : min (m * up e / down e) 2147483647 ≡ 2147483647 = omega arith in
     ap pos r
-too-high (fin true m e) p q = let d = down-pos e in let k = ltb-false 0 (m * up e * 1 + 2147483648 * down e) p in absurd (omega arith)
+above-i32 (fin true m e) p q = let d = down-pos e in let k = ltb-false 0 (m * up e * 1 + 2147483648 * down e) p in absurd (omega arith)
 
-pub too-low : (x : Float) → lt x (fin false 1 (pos 31)) ≡ true → lt (fin true 2147483649 (pos 0)) x ≡ false → toSigned 31 x ≡ negsuc 2147483647
+pub below-i32 : (x : Float) → lt x (fin false 1 (pos 31)) ≡ true → lt (fin true 2147483649 (pos 0)) x ≡ false → toSigned 31 x ≡ negsuc 2147483647
 unfolding lt toSigned
-too-low nan p q = cc
-too-low (inf true) p q = refl
-too-low (inf false) p q = cc
-too-low (fin false m e) p q = let d = down-pos e in let k = ltb-false 0 (2147483649 * down e + m * up e * 1) q in absurd (omega arith)
-too-low (fin true m e) p q =
+below-i32 nan p q = cc
+below-i32 (inf true) p q = refl
+below-i32 (inf false) p q = cc
+below-i32 (fin false m e) p q = let d = down-pos e in let k = ltb-false 0 (2147483649 * down e + m * up e * 1) q in absurd (omega arith)
+below-i32 (fin true m e) p q =
     let k = over (m * up e) (down e) 2147483649 (down-pos e) q in
     let r : min (m * up e / down e) 2147483648 ≡ 2147483648 = omega arith in
     rw r
 
-pub of-nan : (x : Float) → ne x x ≡ true → toSigned 31 x ≡ pos 0
+pub nan-to-zero : (x : Float) → ne x x ≡ true → toSigned 31 x ≡ pos 0
 unfolding toSigned
-of-nan x p = rw (differs-from-itself x (subst T (sym p) tt))
+nan-to-zero x p = rw (differs-from-itself x (subst T (sym p) tt))

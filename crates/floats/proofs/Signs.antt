@@ -31,25 +31,25 @@ never-nan : ne nan nan ≡ false → ⊥
 unfolding isNan
 never-nan h = no-nan nan h
 
-pub above-all : (x : Float) → eq x (inf false) ≡ true → true ≡ infinite x
+pub infinite-plus : (x : Float) → eq x (inf false) ≡ true → true ≡ infinite x
 unfolding eq infinite
-above-all nan h = sym h
-above-all (inf s) h = refl
-above-all (fin s m e) h = sym h
+infinite-plus nan h = sym h
+infinite-plus (inf s) h = refl
+infinite-plus (fin s m e) h = sym h
 
-pub not-above-all : (x : Float) → eq x (inf false) ≡ false → eq x (inf true) ≡ infinite x
+pub infinite-minus : (x : Float) → eq x (inf false) ≡ false → eq x (inf true) ≡ infinite x
 unfolding eq infinite
-not-above-all nan h = refl
-not-above-all (inf true) h = refl
-not-above-all (inf false) h = sym h
-not-above-all (fin s m e) h = refl
+infinite-minus nan h = refl
+infinite-minus (inf true) h = refl
+infinite-minus (inf false) h = sym h
+infinite-minus (fin s m e) h = refl
 
 -- ---- floats that are alike are equal: values that fit are told apart by their patterns, and there is one NaN
 
 is-nan : (x : Float) → ne x x ≡ true → x ≡ nan
 is-nan x h = differs-from-itself x (rw h tt)
 
-no-number : (x : Float) → isNan x ≡ true → x ≡ nan
+pub no-number : (x : Float) → isNan x ≡ true → x ≡ nan
 no-number x h = is-nan x (nan-test x ∙ h)
 
 pub alike-same : (a b : Float) → T (fits binary64 a) → T (fits binary64 b) → alike a b ≡ true → a ≡ b
@@ -94,11 +94,11 @@ unfolding ofBits toBits
 sign-cleared-inf true = refl
 sign-cleared-inf false = refl
 
-still : (x : Float) → ne x x ≡ false → T (not (isNan (absolute x)))
+absolute-no-nan : (x : Float) → ne x x ≡ false → T (not (isNan (absolute x)))
 unfolding absolute isNan
-still nan h = no-nan nan h
-still (inf s) h = tt
-still (fin s m e) h = tt
+absolute-no-nan nan h = no-nan nan h
+absolute-no-nan (inf s) h = tt
+absolute-no-nan (fin s m e) h = tt
 
 pub sign-cleared : (x : Float) → ne x x ≡ false → T (fits binary64 x) → bits (toBits binary64 x % 9223372036854775808) ≡ absolute x
 unfolding absolute neg
@@ -111,7 +111,7 @@ sign-cleared (fin true m e) h p =
 sign-cleared (fin false m e) h p = ap bits (mod-eq-of-lt (lower-bits m e p)) ∙ ofBits-toBits binary64 (fin false m e) p
 
 pub cleared-no-nan : (x : Float) → ne x x ≡ false → T (fits binary64 x) → T (not (nanBits binary64 (toBits binary64 x % 9223372036854775808)))
-cleared-no-nan x h p = rw (nanBits-is, sign-cleared x h p) (still x h)
+cleared-no-nan x h p = rw (nanBits-is, sign-cleared x h p) (absolute-no-nan x h)
 
 pub sign-plus : (x : Float) → ne x x ≡ false → toBits binary64 x < 9223372036854775808 → f1 ≡ signOf x
 unfolding signOf toBits

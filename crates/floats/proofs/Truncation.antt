@@ -4,7 +4,7 @@ use mathlib.Core.Logic.{inl, inr}
 use Prim.Native.Nat.{ℕ, suc, _+_, _-_, _*_, _/_, _^_, _≤_, _<_}
 use native.Mathlib.Nat.{le-trans, le-of-eq, lt-of-lt-of-le, not-le-of-lt, mul-one, mul-assoc, mul-right-comm, mul-le-mul-right, mul-le-mul-left, mul-lt-mul-of-pos-right, le-of-mul-le-mul-right, eq-of-mul-eq-mul-right, sub-add-cancel, le-of-lt, suc-mul, pow-suc, pow-succ', div-mul-le-self, lt-div-mul-add, le-div-iff-mul-le, mul-div-cancel, add-mul-div-right, div-lt-iff-lt-mul, zero-mul}
 use native.Mathlib.Omega.{arith}
-use mathlib.Core.Bool.{Bool, true, false}
+use mathlib.Core.Bool.{Bool, true, false, cond}
 use lib.IntN.{ℤ, pos}
 use lib.Dec.{T, ltb}
 use lib.Pow.{pow-add, pow-pos, pow-mono}
@@ -23,8 +23,8 @@ use Rattle.floats.proofs.Rounding.{on-grid, round-back, round-value, ro
 use Rattle.floats.proofs.Wholes.{of-pos, whole-sub}
 
 -- q of p + 1 digits, times 2 ^ j, reaches 2 ^ p * 2 ^ l only where j is l or more
-places : (q j l p : ℕ) → q < 2 ^ suc p → 2 ^ p * 2 ^ l ≤ q * 2 ^ j → l ≤ j
-places q j l p Q h = elim (lt-or-ge j l) [
+enough-places : (q j l p : ℕ) → q < 2 ^ suc p → 2 ^ p * 2 ^ l ≤ q * 2 ^ j → l ≤ j
+enough-places q j l p Q h = elim (lt-or-ge j l) [
   | inl a ↦
       absurd
       (not-le-of-lt (lt-of-lt-of-le (mul-lt-mul-of-pos-right Q (pow-pos j))
@@ -40,7 +40,7 @@ large-whole f x s a c p P C fit v h =
     let l = low f in
     let e : a * 2 ^ l ≡ g .q * 2 ^ g .j * c = cross x s (g .sign) a c (g .q * 2 ^ g .j) (2 ^ l) v (g .value) in
     let r : 2 ^ p * 2 ^ l * c ≤ g .q * 2 ^ g .j * c = le-trans (le-of-eq (mul-right-comm (2 ^ p) (2 ^ l) c)) (le-trans (mul-le-mul-right (2 ^ l) h) (le-of-eq e)) in
-    let b : l ≤ g .j = places (g .q) (g .j) l p (subst (λ (z : ℕ). g .q < 2 ^ z) P (g .small)) (le-of-mul-le-mul-right r C) in
+    let b : l ≤ g .j = enough-places (g .q) (g .j) l p (subst (λ (z : ℕ). g .q < 2 ^ z) P (g .small)) (le-of-mul-le-mul-right r C) in
     let w = g .q * 2 ^ (g .j - l) in
     let d : g .q * 2 ^ g .j ≡ w * 2 ^ l =
     ap (λ (z : ℕ). g .q * 2 ^ z) (sym (sub-add-cancel b)) ∙ ap (λ (z : ℕ). g .q * z) (pow-add 2 (g .j - l) l)
@@ -90,14 +90,14 @@ unfolding ofInt
 one-whole = refl
 
 -- what is left is the whole part, or one more
-record Near (m : ℕ) (e : ℤ) : Type 0 where
+record NearWhole (m : ℕ) (e : ℤ) : Type 0 where
   k : ℕ
   is : add binary64 (fin false m e) limit ⊖ limit ≡ ofInt binary64 (pos k)
   at-least : m * up e / down e ≤ k
   at-most : k ≤ suc (m * up e / down e)
 
-near : (m : ℕ) (e : ℤ) → m * up e / down e < 2 ^ 52 → Near m e
-near m e h =
+near-whole : (m : ℕ) (e : ℤ) → m * up e / down e < 2 ^ 52 → NearWhole m e
+near-whole m e h =
     let a = m * up e in
     let c = down e in
     let n = a / c in
@@ -121,8 +121,8 @@ near m e h =
     more x a = omega arith
 
 -- y against the whole number k
-past : (m : ℕ) (e : ℤ) (k : ℕ) → k ≤ 2 ^ 53 → lt (fin false m e) (ofInt binary64 (pos k)) ≡ ltb (m * up e) (k * down e)
-past m e k h =
+below-whole : (m : ℕ) (e : ℤ) (k : ℕ) → k ≤ 2 ^ 53 → lt (fin false m e) (ofInt binary64 (pos k)) ≡ ltb (m * up e) (k * down e)
+below-whole m e k h =
     lt-at (fin false m e) (ofInt binary64 (pos k)) false (m * up e) false (k * down e) (down e) (down-pos e) (own-value false m e)
     (rescale (ofInt binary64 (pos k)) false k 1 (k * down e) (down e) one (sym (mul-one (k * down e))) (ofInt-pos binary64 k h))
 
@@ -134,13 +134,13 @@ below-limit m e h = div-lt-iff-lt-mul (down-pos e) .1 (ltb-true (m * up e) (2 ^ 
 
 -- the two ways out of `whole_part`
 module _ (m : ℕ) (e : ℤ) (small : lt (fin false m e) limit ≡ true) where
-  less-one : lt (fin false m e) (add binary64 (fin false m e) limit ⊖ limit) ≡ true
+  one-less : lt (fin false m e) (add binary64 (fin false m e) limit ⊖ limit) ≡ true
       → add binary64 (fin false m e) limit ⊖ limit ⊖ fin false 1 (pos 0) ≡ truncated (fin false m e)
   unfolding truncated
-  less-one h =
-      let n = near m e (below-limit m e small) in
+  one-less h =
+      let n = near-whole m e (below-limit m e small) in
       let b = below-limit m e small in
-      let t : m * up e / down e < n .k = div-lt-iff-lt-mul (down-pos e) .1 (ltb-true (m * up e) (n .k * down e) (sym (past m e (n .k) (omega arith)) ∙ rw (← n .is) h)) in
+      let t : m * up e / down e < n .k = div-lt-iff-lt-mul (down-pos e) .1 (ltb-true (m * up e) (n .k * down e) (sym (below-whole m e (n .k) (omega arith)) ∙ rw (← n .is) h)) in
       let q : n .k - 1 ≡ m * up e / down e = omega arith in
       ap (λ (z : Float). z ⊖ fin false 1 (pos 0)) (n .is)
       ∙ ap (λ (z : Float). ofInt binary64 (pos (n .k)) ⊖ z) one-whole
@@ -152,46 +152,39 @@ module _ (m : ℕ) (e : ℤ) (small : lt (fin false m e) limit ≡ true) where
       → add binary64 (fin false m e) limit ⊖ limit ≡ truncated (fin false m e)
   unfolding truncated
   as-it-is h =
-      let n = near m e (below-limit m e small) in
+      let n = near-whole m e (below-limit m e small) in
       let b = below-limit m e small in
-      let t : n .k ≤ m * up e / down e = le-div-iff-mul-le (down-pos e) .1 (ltb-false (m * up e) (n .k * down e) (sym (past m e (n .k) (omega arith)) ∙ rw (← n .is) h)) in
+      let t : n .k ≤ m * up e / down e = le-div-iff-mul-le (down-pos e) .1 (ltb-false (m * up e) (n .k * down e) (sym (below-whole m e (n .k) (omega arith)) ∙ rw (← n .is) h)) in
       let q : n .k ≡ m * up e / down e = omega arith in
       n .is ∙ ap (λ (z : ℕ). ofInt binary64 (pos z)) q ∙ sym (of-pos binary64 (m * up e / down e))
 
 -- ---- what the tests of the program say
 
-pub past-whole : (y : Float) → lt f0 y ≡ true → lt y wholeFrom ≡ true → lt y (y ⊕ wholeFrom ⊖ wholeFrom) ≡ true
-    → y ⊕ wholeFrom ⊖ wholeFrom ⊖ f1 ≡ truncated y
+-- the result of `whole_part`, by what its test gives
+pub whole-part-is : (y : Float) → lt f0 y ≡ true → lt y wholeFrom ≡ true → (b : Bool) → lt y (y ⊕ wholeFrom ⊖ wholeFrom) ≡ b
+    → cond b (y ⊕ wholeFrom ⊖ wholeFrom ⊖ f1) (y ⊕ wholeFrom ⊖ wholeFrom) ≡ truncated y
 unfolding ofBits lt
-past-whole nan p q h = absurd (subst T (sym p) tt)
-past-whole (inf true) p q h = absurd (subst T (sym p) tt)
-past-whole (inf false) p q h = absurd (subst T (sym q) tt)
-past-whole (fin true m e) p q h = absurd (subst T (sym p) tt)
-past-whole (fin false m e) p q h = less-one m e q h
+whole-part-is nan p q b h = absurd (subst T (sym p) tt)
+whole-part-is (inf true) p q b h = absurd (subst T (sym p) tt)
+whole-part-is (inf false) p q b h = absurd (subst T (sym q) tt)
+whole-part-is (fin true m e) p q b h = absurd (subst T (sym p) tt)
+whole-part-is (fin false m e) p q true h = one-less m e q h
+whole-part-is (fin false m e) p q false h = as-it-is m e q h
 
-pub not-past-whole : (y : Float) → lt f0 y ≡ true → lt y wholeFrom ≡ true → lt y (y ⊕ wholeFrom ⊖ wholeFrom) ≡ false
-    → y ⊕ wholeFrom ⊖ wholeFrom ≡ truncated y
-unfolding ofBits lt
-not-past-whole nan p q h = absurd (subst T (sym p) tt)
-not-past-whole (inf true) p q h = absurd (subst T (sym p) tt)
-not-past-whole (inf false) p q h = absurd (subst T (sym q) tt)
-not-past-whole (fin true m e) p q h = absurd (subst T (sym p) tt)
-not-past-whole (fin false m e) p q h = as-it-is m e q h
-
-none : (a c : ℕ) → a ≤ 0 → a ≡ 0 * c
-none a c h = let z : a ≡ 0 = omega arith in z ∙ sym (zero-mul c)
+zero-digits : (a c : ℕ) → a ≤ 0 → a ≡ 0 * c
+zero-digits a c h = let z : a ≡ 0 = omega arith in z ∙ sym (zero-mul c)
 
 -- a whole value is its own whole part
-itself : (s : Bool) (m : ℕ) (e : ℤ) (w : ℕ) → T (fits binary64 (fin s m e)) → m * up e ≡ w * down e → fin s m e ≡ truncated (fin s m e)
+whole-itself : (s : Bool) (m : ℕ) (e : ℤ) (w : ℕ) → T (fits binary64 (fin s m e)) → m * up e ≡ w * down e → fin s m e ≡ truncated (fin s m e)
 unfolding truncated
-itself s m e w p h =
+whole-itself s m e w p h =
     sym (round-back binary64 (fin s m e) s w 1 one p (refl, mul-one (m * up e) ∙ h))
     ∙ ap (λ (z : ℕ). round binary64 s z 1) (sym (ap (λ (z : ℕ). z / down e) h ∙ mul-div-cancel w (down-pos e)))
 
-large : (s : Bool) (m : ℕ) (e : ℤ) → T (fits binary64 (fin s m e)) → 2 ^ 52 * down e ≤ m * up e → fin s m e ≡ truncated (fin s m e)
-large s m e p h =
+large-itself : (s : Bool) (m : ℕ) (e : ℤ) → T (fits binary64 (fin s m e)) → 2 ^ 52 * down e ≤ m * up e → fin s m e ≡ truncated (fin s m e)
+large-itself s m e p h =
     let w = large-whole binary64 (fin s m e) s (m * up e) (down e) 52 refl (down-pos e) p (own-value s m e) h in
-    itself s m e (w .0) p (sym (mul-one (m * up e)) ∙ w .1 .1)
+    whole-itself s m e (w .0) p (sym (mul-one (m * up e)) ∙ w .1 .1)
 
 -- a test of y = a / c, with either sign, against ±2 ^ 52 and against 0
 limit-below : (m : ℕ) (e : ℤ) → lt (fin true 1 (pos 52)) (fin true m e) ≡ ltb (m * up e) (2 ^ 52 * down e)
@@ -208,45 +201,45 @@ unfolding ofBits truncated lt
 large-above nan p q h = refl
 large-above (inf s) p q h = refl
 large-above (fin true m e) p q h = absurd (subst T (sym q) tt)
-large-above (fin false m e) p q h = large false m e p (ltb-false (m * up e) (2 ^ 52 * down e) (sym (limit-above m e) ∙ h))
+large-above (fin false m e) p q h = large-itself false m e p (ltb-false (m * up e) (2 ^ 52 * down e) (sym (limit-above m e) ∙ h))
 
 pub large-below : (x : Float) → T (fits binary64 x) → lt x f0 ≡ true → lt (neg wholeFrom) x ≡ false → x ≡ truncated x
 unfolding ofBits truncated neg
 large-below nan p q h = refl
 large-below (inf s) p q h = refl
 large-below (fin false m e) p q h = let k = ltb-true (m * up e) 0 (sym (below-zero false m e) ∙ q) in absurd (omega arith)
-large-below (fin true m e) p q h = large true m e p (ltb-false (m * up e) (2 ^ 52 * down e) (sym (limit-below m e) ∙ h))
+large-below (fin true m e) p q h = large-itself true m e p (ltb-false (m * up e) (2 ^ 52 * down e) (sym (limit-below m e) ∙ h))
 
 -- neither above 0 nor below it: a zero or NaN
 pub zero-itself : (x : Float) → T (fits binary64 x) → lt f0 x ≡ false → lt x f0 ≡ false → x ≡ truncated x
 unfolding ofBits truncated
 zero-itself nan p q h = refl
 zero-itself (inf s) p q h = refl
-zero-itself (fin true m e) p q h = let k = ltb-false 0 (m * up e + 0) (sym (below-zero true m e) ∙ h) in itself true m e 0 p (none (m * up e) (down e) (omega arith))
-zero-itself (fin false m e) p q h = let k = ltb-false 0 (m * up e) (sym (above-zero m e) ∙ q) in itself false m e 0 p (none (m * up e) (down e) (omega arith))
+zero-itself (fin true m e) p q h = let k = ltb-false 0 (m * up e + 0) (sym (below-zero true m e) ∙ h) in whole-itself true m e 0 p (zero-digits (m * up e) (down e) (omega arith))
+zero-itself (fin false m e) p q h = let k = ltb-false 0 (m * up e) (sym (above-zero m e) ∙ q) in whole-itself false m e 0 p (zero-digits (m * up e) (down e) (omega arith))
 
 -- below 0 the program works on -x
-pub turned-above : (x : Float) → lt x f0 ≡ true → lt f0 (neg x) ≡ true
+pub negated-above : (x : Float) → lt x f0 ≡ true → lt f0 (neg x) ≡ true
 unfolding ofBits lt neg
-turned-above nan h = h
-turned-above (inf true) h = refl
-turned-above (inf false) h = h
-turned-above (fin false m e) h = let k = ltb-true (m * up e) 0 (sym (below-zero false m e) ∙ h) in absurd (omega arith)
-turned-above (fin true m e) h = let k = ltb-true 0 (m * up e + 0) (sym (below-zero true m e) ∙ h) in above-zero m e
+negated-above nan h = h
+negated-above (inf true) h = refl
+negated-above (inf false) h = h
+negated-above (fin false m e) h = let k = ltb-true (m * up e) 0 (sym (below-zero false m e) ∙ h) in absurd (omega arith)
+negated-above (fin true m e) h = let k = ltb-true 0 (m * up e + 0) (sym (below-zero true m e) ∙ h) in above-zero m e
     ∙ lt-ltb 0 (m * up e) (omega arith)
 
-pub turned-below : (x : Float) → lt x f0 ≡ true → lt (neg wholeFrom) x ≡ true → lt (neg x) wholeFrom ≡ true
+pub negated-below : (x : Float) → lt x f0 ≡ true → lt (neg wholeFrom) x ≡ true → lt (neg x) wholeFrom ≡ true
 unfolding ofBits lt neg
-turned-below nan p h = h
-turned-below (inf true) p h = h
-turned-below (inf false) p h = refl
-turned-below (fin false m e) p h = let k = ltb-true (m * up e) 0 (sym (below-zero false m e) ∙ p) in absurd (omega arith)
-turned-below (fin true m e) p h = limit-above m e ∙ sym (limit-below m e) ∙ h
+negated-below nan p h = h
+negated-below (inf true) p h = h
+negated-below (inf false) p h = refl
+negated-below (fin false m e) p h = let k = ltb-true (m * up e) 0 (sym (below-zero false m e) ∙ p) in absurd (omega arith)
+negated-below (fin true m e) p h = limit-above m e ∙ sym (limit-below m e) ∙ h
 
-pub turned-back : (x : Float) → neg (truncated (neg x)) ≡ truncated x
+pub negated-back : (x : Float) → neg (truncated (neg x)) ≡ truncated x
 unfolding truncated neg
-turned-back nan = refl
-turned-back (inf true) = refl
-turned-back (inf false) = refl
-turned-back (fin true m e) = round-neg binary64 false (m * up e / down e) 1
-turned-back (fin false m e) = round-neg binary64 true (m * up e / down e) 1
+negated-back nan = refl
+negated-back (inf true) = refl
+negated-back (inf false) = refl
+negated-back (fin true m e) = round-neg binary64 false (m * up e / down e) 1
+negated-back (fin false m e) = round-neg binary64 true (m * up e / down e) 1

@@ -1,10 +1,10 @@
 -- `floats::is_infinite` meets its contract: the two tests are with the two infinities.
 use lib.Ieee.{div, neg, ofBits}
-use Rattle.floats.proofs.Signs.{above-all, not-above-all}
+use Rattle.floats.proofs.Signs.{infinite-plus, infinite-minus}
 use Rattle.floats.proofs.is_infinite.Statement.{statement}
 use Rattle.floats.proofs.is_infinite.Tie as tie
 
 pub is-infinite-spec : {M : Type 1} → statement M
 unfolding div neg ofBits
 is-infinite-spec =
-    tie.close (tie.spec (λ c. above-all (c .before .args .x) (c .if1 .taken)) (λ c. not-above-all (c .before .args .x) (c .if1 .left)))
+    tie.close (tie.spec (λ c. infinite-plus (c .before .args .x) (c .if1 .taken)) (λ c. infinite-minus (c .before .args .x) (c .if1 .left)))

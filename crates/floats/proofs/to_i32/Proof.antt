@@ -7,7 +7,7 @@ use lib.Ieee.Casts.{toSigned-in}
 use mir.Syntax.{w32, w64}
 use mir.Val.{toZ, ofZ}
 use mir.ValLaws.{toZ-ofZ}
-use Rattle.floats.proofs.Cuts.{reach, inside, too-high, too-low, of-nan}
+use Rattle.floats.proofs.Cuts.{in-i64, in-i32, above-i32, below-i32, nan-to-zero}
 use Rattle.floats.proofs.to_i32.Statement.{statement}
 use Rattle.floats.proofs.to_i32.Tie as tie
 
@@ -16,16 +16,16 @@ whole : (c : tie.After-truncating-f64-to-i64) → toZ w64 (ofZ w64 (c .truncatin
 unfolding ofBits neg
 whole c =
     let t = c .before in
-    toZ-ofZ w64 (c .truncating-f64-to-i64 .result) (sfits-of (c .truncating-f64-to-i64 .ok)) ∙ c .truncating-f64-to-i64 .ensures ∙ inside (t .before .before .args .x) (t .before .if1 .taken) (t .if2 .taken)
+    toZ-ofZ w64 (c .truncating-f64-to-i64 .result) (sfits-of (c .truncating-f64-to-i64 .ok)) ∙ c .truncating-f64-to-i64 .ensures ∙ in-i32 (t .before .before .args .x) (t .before .if1 .taken) (t .if2 .taken)
 
 pub to-i32-spec : {M : Type 1} → statement M
 unfolding ofBits neg
 to-i32-spec =
     tie.close
     (tie.spec
-    (λ c κs. reach 1 31 2147483649 0 (lit≤ tt) (lit≤ tt) (c .before .before .args .x) (c .before .if1 .taken) (c .if2 .taken))
+    (λ c κs. in-i64 1 31 2147483649 0 (lit≤ tt) (lit≤ tt) (c .before .before .args .x) (c .before .if1 .taken) (c .if2 .taken))
     (λ c. rw (whole c) (sfits-of (toSigned-in 31 _)))
     (λ c. rw (whole c) (toZ-ofZ w32 _ (sfits-of (toSigned-in 31 (c .before .before .before .args .x)))))
-    (λ c. sym (too-low (c .before .before .args .x) (c .before .if1 .taken) (c .if2 .left)))
-    (λ c. sym (of-nan (c .before .before .args .x) (c .if3 .taken)))
-    (λ c. sym (too-high (c .before .before .args .x) (c .before .if1 .left) (c .if3 .left))))
+    (λ c. sym (below-i32 (c .before .before .args .x) (c .before .if1 .taken) (c .if2 .left)))
+    (λ c. sym (nan-to-zero (c .before .before .args .x) (c .if3 .taken)))
+    (λ c. sym (above-i32 (c .before .before .args .x) (c .before .if1 .left) (c .if3 .left))))

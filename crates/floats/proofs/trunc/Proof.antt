@@ -2,7 +2,7 @@
 use mathlib.Core.Path.{_∙_, ap}
 use lib.Ieee.{neg}
 use borrow.Author.Needs.{needs}
-use Rattle.floats.proofs.Truncation.{large-above, large-below, zero-itself, turned-above, turned-below, turned-back}
+use Rattle.floats.proofs.Truncation.{large-above, large-below, zero-itself, negated-above, negated-below, negated-back}
 use Rattle.floats.proofs.trunc.Statement.{statement}
 use Rattle.floats.proofs.trunc.Tie as tie
 
@@ -13,7 +13,7 @@ trunc-spec =
     (λ c κs. (c .before .if1 .taken, c .if2 .taken))
     (λ c. c .whole-part .ensures)
     (λ c. large-above _ (search needs) (c .before .if1 .taken) (c .if2 .left))
-    (λ c κs. (turned-above _ (c .before .if3 .taken), turned-below _ (c .before .if3 .taken) (c .if4 .taken)))
-    (λ c. ap neg (c .whole-part2 .ensures) ∙ turned-back _)
+    (λ c κs. (negated-above _ (c .before .if3 .taken), negated-below _ (c .before .if3 .taken) (c .if4 .taken)))
+    (λ c. ap neg (c .whole-part2 .ensures) ∙ negated-back _)
     (λ c. large-below _ (search needs) (c .before .if3 .taken) (c .if4 .left))
     (λ c. zero-itself _ (search needs) (c .before .if1 .left) (c .if3 .left)))

@@ -1,11 +1,12 @@
 -- `answers::record::float` meets its contract: a pattern is a NaN's where its lower 63 bits are above an infinity's.
 use mathlib.Core.Path.{_≡_, refl, sym, _∙_}
-use mathlib.Core.Bool.{true, not}
+use mathlib.Core.Bool.{not}
 use Prim.Native.Nat.{ℕ, _%_, _<_, _≤_}
 use borrow.Author.Tests.{lt-ltb, le-ltb}
 use lib.Dec.{T}
-use lib.Ieee.{Float, nan, inf, fin, binary64, isNan, nanBits, ofBits, div}
+use lib.Ieee.{nan, binary64, nanBits, ofBits, div}
 use lib.Ieee.Bits.{nanBits-is, nanBits-above}
+use Rattle.floats.proofs.Signs.{no-number}
 use Rattle.answers.proofs.record.float.Statement.{statement}
 use Rattle.answers.proofs.record.float.Tie as tie
 
@@ -13,14 +14,8 @@ quotient : div binary64 (ofBits binary64 0) (ofBits binary64 0) ≡ nan
 unfolding div ofBits
 quotient = refl
 
-is-nan : (x : Float) → isNan x ≡ true → nan ≡ x
-unfolding isNan
-is-nan nan h = refl
-is-nan (inf s) h = cc
-is-nan (fin s m e) h = cc
-
 above : (n : ℕ) → 9218868437227405312 < n % 9223372036854775808 → nan ≡ ofBits binary64 n
-above n h = is-nan (ofBits binary64 n) (sym (nanBits-is binary64 n) ∙ nanBits-above binary64 n ∙ lt-ltb 9218868437227405312 (n % 9223372036854775808) h)
+above n h = sym (no-number (ofBits binary64 n) (sym (nanBits-is binary64 n) ∙ nanBits-above binary64 n ∙ lt-ltb 9218868437227405312 (n % 9223372036854775808) h))
 
 not-above : (n : ℕ) → n % 9223372036854775808 ≤ 9218868437227405312 → T (not (nanBits binary64 n))
 not-above n h = rw (nanBits-above binary64 n, le-ltb 9218868437227405312 (n % 9223372036854775808) h) tt

@@ -4,7 +4,7 @@ use std::hint::black_box;
 use std::time::Instant;
 
 use crate::functions::{Function, Pair, Sides};
-use crate::inputs::Draw;
+use crate::inputs::{Draw, Input};
 
 const INPUTS: usize = 4096;
 const PASSES: usize = 64;
@@ -12,10 +12,10 @@ const ROUNDS: usize = 25;
 const SEED: u64 = 1;
 
 /// Prints the times of each function. Both sides are called through a pointer.
-pub fn run(functions: &[Function]) {
-    let inputs = ordinary_inputs();
+pub fn run<'a>(functions: impl Iterator<Item = &'a Function>) {
     println!("ns per call, best of {ROUNDS} rounds: library, Rust, ratio");
     for function in functions {
+        let inputs = ordinary_inputs(function);
         let (library, reference) = match &function.sides {
             Sides::Number(f) => best(&inputs, f, |f, x, _| f(x)),
             Sides::NumberOfTwo(f) => best(&inputs, f, |f, x, y| f(x, y)),
@@ -31,9 +31,12 @@ pub fn run(functions: &[Function]) {
     }
 }
 
-/// Numbers of ordinary size, every fourth a whole one.
-fn ordinary_inputs() -> Vec<(f64, f64)> {
+/// A function's own inputs for the times, else numbers below 1000, every fourth a whole one.
+fn ordinary_inputs(function: &Function) -> Vec<Input> {
     let mut draw = Draw::new(SEED);
+    if let Some(own) = function.own {
+        return (0..INPUTS).map(|_| (own.timed)(&mut draw)).collect();
+    }
     let mut number = |i: usize| {
         let x = draw.uniform(1000.0);
         if i.is_multiple_of(4) { x.trunc() } else { x }
@@ -43,7 +46,7 @@ fn ordinary_inputs() -> Vec<(f64, f64)> {
 
 /// The least time for a call of each side, the rounds of the two in turn.
 fn best<F: Copy, A>(
-    inputs: &[(f64, f64)],
+    inputs: &[Input],
     pair: &Pair<F>,
     call: impl Fn(F, f64, f64) -> A,
 ) -> (f64, f64) {
@@ -63,4 +66,23 @@ fn best<F: Copy, A>(
         reference = reference.min(round(pair.reference));
     }
     (library, reference)
+}
+
+#[cfg(test)]
+mod tests {
+    use super::{INPUTS, ordinary_inputs};
+    use crate::elementary::FUNCTIONS;
+
+    #[test]
+    fn answers_at_the_inputs_are_finite_and_not_zero() {
+        for function in &FUNCTIONS {
+            let inputs = ordinary_inputs(function);
+            assert_eq!(inputs.len(), INPUTS);
+            for (x, y) in inputs {
+                let answer = function.reference(x, y);
+                let ordinary = answer.is_finite() && answer != 0.0;
+                assert!(ordinary, "{} {x:?} {y:?}", function.name);
+            }
+        }
+    }
 }

@@ -72,6 +72,7 @@ macro_rules! function {
                 library: library::$library,
                 reference: reference::$name,
             }),
+            None,
         )
     };
 }

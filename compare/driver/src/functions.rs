@@ -1,7 +1,7 @@
 //! Functions of one or two numbers: the library's side and the Rust's, and what is done with them.
 
 use crate::comparing::Tally;
-use crate::inputs;
+use crate::inputs::{self, Input, OwnInputs};
 
 /// A function of the library with its reference.
 pub struct Function {
@@ -9,6 +9,7 @@ pub struct Function {
     pub number: u64,
     pub name: &'static str,
     pub sides: Sides,
+    pub own: Option<OwnInputs>,
 }
 
 /// Both sides of a function. A truth value is a byte, so that one other than 0 and 1 would show.
@@ -26,11 +27,17 @@ pub struct Pair<F> {
 }
 
 impl Function {
-    pub const fn new(number: u64, name: &'static str, sides: Sides) -> Self {
+    pub const fn new(
+        number: u64,
+        name: &'static str,
+        sides: Sides,
+        own: Option<OwnInputs>,
+    ) -> Self {
         Function {
             number,
             name,
             sides,
+            own,
         }
     }
 
@@ -44,29 +51,34 @@ impl Function {
         seed ^ (self.number << 32)
     }
 
+    /// Its inputs for a comparison.
+    pub fn inputs(&self, count: usize, seed: u64) -> impl Iterator<Item = Input> {
+        inputs::inputs(self.takes_two(), self.own, count, self.seed(seed))
+    }
+
     /// Compares both sides over `count` inputs.
     pub fn compare(&self, tally: &mut Tally, count: usize, seed: u64) {
-        let seed = self.seed(seed);
         let name = self.name;
-        let numbers = inputs::numbers(count, seed);
+        let pairs = self.inputs(count, seed);
         match &self.sides {
             Sides::Number(f) => {
+                let numbers = pairs.map(|(x, _)| x);
                 tally.compare(name, numbers, |&x| (f.library)(x), |&x| (f.reference)(x));
             }
             Sides::Truth(f) => {
+                let numbers = pairs.map(|(x, _)| x);
                 tally.compare(name, numbers, |&x| (f.library)(x), |&x| (f.reference)(x));
             }
             Sides::Whole(f) => {
+                let numbers = pairs.map(|(x, _)| x);
                 tally.compare(name, numbers, |&x| (f.library)(x), |&x| (f.reference)(x));
             }
             Sides::NumberOfTwo(f) => {
-                let pairs = inputs::pairs(count, seed);
-                let library = |&(x, y): &(f64, f64)| (f.library)(x, y);
+                let library = |&(x, y): &Input| (f.library)(x, y);
                 tally.compare(name, pairs, library, |&(x, y)| (f.reference)(x, y));
             }
             Sides::TruthOfTwo(f) => {
-                let pairs = inputs::pairs(count, seed);
-                let library = |&(x, y): &(f64, f64)| (f.library)(x, y);
+                let library = |&(x, y): &Input| (f.library)(x, y);
                 tally.compare(name, pairs, library, |&(x, y)| (f.reference)(x, y));
             }
         }

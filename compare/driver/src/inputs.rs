@@ -1,5 +1,29 @@
 //! The inputs: edge inputs with their neighbours, and random ones.
 
+/// An input: x and y, with y = 0 for a function of one number.
+pub type Input = (f64, f64);
+
+/// The inputs that a function has beside those of all functions.
+#[derive(Clone, Copy)]
+pub struct OwnInputs {
+    /// A few edge inputs with their neighbours. All of them are stored.
+    pub limits: fn() -> Vec<Input>,
+    /// The other edge inputs with their neighbours.
+    pub edges: fn() -> Vec<Input>,
+    /// Draws from the ranges where most answers are finite.
+    pub ordinary: fn(&mut Draw) -> Input,
+    /// Draws for the times.
+    pub timed: fn(&mut Draw) -> Input,
+}
+
+impl OwnInputs {
+    fn all_edges(self) -> Vec<Input> {
+        let mut edges = (self.limits)();
+        edges.extend((self.edges)());
+        edges
+    }
+}
+
 /// Numbers above zero at which a function may change its course. Each is taken with both signs.
 #[rustfmt::skip]
 const EDGES: [f64; 76] = [
@@ -56,22 +80,40 @@ pub fn edge_pairs(many: usize) -> Vec<(f64, f64)> {
     edges.iter().flat_map(pairs_of).collect()
 }
 
-/// `count` inputs: all edge inputs with their neighbours, then drawn ones.
-pub fn numbers(count: usize, seed: u64) -> impl Iterator<Item = f64> {
-    let mut draw = Draw::new(seed);
-    let first = edges().into_iter().flat_map(neighbours);
-    first
-        .chain(std::iter::repeat_with(move || draw.number()))
-        .take(count)
+/// `count` inputs of a function of one number or of `two`: all edge inputs, then drawn ones. Those
+/// of one number stand with their neighbours.
+pub fn inputs(
+    two: bool,
+    own: Option<OwnInputs>,
+    count: usize,
+    seed: u64,
+) -> impl Iterator<Item = Input> {
+    let mut first = if two {
+        edge_pairs(usize::MAX)
+    } else {
+        let numbers = edges().into_iter().flat_map(neighbours);
+        numbers.map(|x| (x, 0.0)).collect()
+    };
+    first.extend(own.map_or(vec![], OwnInputs::all_edges));
+    first.into_iter().chain(drawn(two, own, seed)).take(count)
 }
 
-/// `count` inputs: all pairs of edge inputs, then drawn ones.
-pub fn pairs(count: usize, seed: u64) -> impl Iterator<Item = (f64, f64)> {
+/// Drawn inputs without end. Of those of a function with inputs of its own a quarter are drawn as
+/// for all functions, a quarter are close to its edge inputs, half are ordinary.
+pub fn drawn(two: bool, own: Option<OwnInputs>, seed: u64) -> impl Iterator<Item = Input> {
     let mut draw = Draw::new(seed);
-    let first = edge_pairs(usize::MAX).into_iter();
-    first
-        .chain(std::iter::repeat_with(move || draw.pair()))
-        .take(count)
+    let edges = own.map_or(vec![], OwnInputs::all_edges);
+    std::iter::repeat_with(move || match own {
+        None => draw.any(two),
+        Some(own) => match draw.below(4) {
+            0 => draw.any(two),
+            1 => {
+                let (x, y) = edges[draw.below(edges.len())];
+                (draw.close(x), if two { draw.close(y) } else { y })
+            }
+            _ => (own.ordinary)(&mut draw),
+        },
+    })
 }
 
 /// Draws inputs from a seed, with the generator splitmix64.
@@ -86,7 +128,7 @@ impl Draw {
         Draw { state: seed, edges }
     }
 
-    fn bits(&mut self) -> u64 {
+    pub fn bits(&mut self) -> u64 {
         self.state = self.state.wrapping_add(0x9e37_79b9_7f4a_7c15);
         let mut bits = self.state;
         bits = (bits ^ (bits >> 30)).wrapping_mul(0xbf58_476d_1ce4_e5b9);
@@ -94,7 +136,7 @@ impl Draw {
         bits ^ (bits >> 31)
     }
 
-    fn below(&mut self, limit: usize) -> usize {
+    pub fn below(&mut self, limit: usize) -> usize {
         (self.bits() % limit as u64) as usize
     }
 
@@ -111,8 +153,14 @@ impl Draw {
         if self.below(2) == 0 { size } else { -size }
     }
 
+    /// At most four floats away from `x`.
+    pub fn close(&mut self, x: f64) -> f64 {
+        let bits = x.to_bits().wrapping_add(self.below(9) as u64);
+        f64::from_bits(bits.wrapping_sub(4))
+    }
+
     /// Half of them edge inputs or their neighbours, the others random.
-    pub fn number(&mut self) -> f64 {
+    fn number(&mut self) -> f64 {
         match self.below(16) {
             0..8 => {
                 let edge = self.below(self.edges.len());
@@ -125,14 +173,14 @@ impl Draw {
             13 => self.whole(),
             14 => self.whole() + 0.5,
             _ => {
-                let whole = self.whole().to_bits();
-                f64::from_bits(whole.wrapping_add(self.below(9) as u64).wrapping_sub(4))
+                let whole = self.whole();
+                self.close(whole)
             }
         }
     }
 
     /// A quarter of them equal, negated or neighbours, the others drawn one by one.
-    pub fn pair(&mut self) -> (f64, f64) {
+    fn pair(&mut self) -> (f64, f64) {
         let x = self.number();
         match self.below(16) {
             0 => (x, x),
@@ -142,15 +190,26 @@ impl Draw {
             _ => (x, self.number()),
         }
     }
+
+    fn any(&mut self, two: bool) -> Input {
+        if two {
+            self.pair()
+        } else {
+            (self.number(), 0.0)
+        }
+    }
 }
 
 #[cfg(test)]
 mod tests {
-    use super::{Draw, edges, numbers, pairs};
+    use super::{Draw, edges, inputs};
 
     #[test]
     fn the_seed_fixes_the_inputs() {
-        let bits = |seed| -> Vec<u64> { numbers(5000, seed).map(f64::to_bits).collect() };
+        let bits = |seed| -> Vec<u64> {
+            let inputs = inputs(false, None, 5000, seed);
+            inputs.map(|(x, _)| x.to_bits()).collect()
+        };
         assert_eq!(bits(1), bits(1));
         assert_ne!(bits(1), bits(2));
     }
@@ -174,7 +233,7 @@ mod tests {
         bits.sort_unstable();
         bits.dedup();
         assert_eq!(bits.len(), length);
-        assert_eq!(numbers(7, 1).count(), 7);
-        assert_eq!(pairs(100_000, 1).count(), 100_000);
+        assert_eq!(inputs(false, None, 7, 1).count(), 7);
+        assert_eq!(inputs(true, None, 100_000, 1).count(), 100_000);
     }
 }

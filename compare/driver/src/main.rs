@@ -2,6 +2,7 @@
 
 mod bench;
 mod comparing;
+mod elementary;
 mod entries;
 mod floats;
 mod functions;
@@ -13,6 +14,13 @@ use std::path::Path;
 use std::process::ExitCode;
 
 use comparing::Tally;
+use functions::Function;
+
+/// The library crates by name, with their functions.
+const CRATES: [(&str, &[Function]); 2] = [
+    ("floats", &floats::FUNCTIONS),
+    ("elementary", &elementary::FUNCTIONS),
+];
 
 const USAGE: &str = "\
 arguments: compare COUNT SEED | entries | store FOLDER | bench
@@ -31,7 +39,7 @@ fn main() -> ExitCode {
         ["entries"] => entries::run(),
         ["store", folder] => store_all(Path::new(folder)),
         ["bench"] => {
-            bench::run(&floats::FUNCTIONS);
+            bench::run(CRATES.iter().flat_map(|(_, functions)| *functions));
             true
         }
         _ => return usage(),
@@ -46,18 +54,25 @@ fn usage() -> ExitCode {
 
 /// Compares every library crate. Gives whether there was no difference.
 fn compare(count: usize, seed: u64) -> bool {
-    let mut floats = Tally::default();
-    for function in &floats::FUNCTIONS {
-        function.compare(&mut floats, count, seed);
+    let mut right = true;
+    for (name, functions) in CRATES {
+        let mut tally = Tally::default();
+        for function in functions {
+            function.compare(&mut tally, count, seed);
+        }
+        right &= tally.finish(name);
     }
-    floats.finish("floats")
+    right
 }
 
 /// Writes every file of stored answers. Gives whether all were written.
 fn store_all(folder: &Path) -> bool {
-    let written = store::write(folder, "floats.bin", &floats::FUNCTIONS);
-    if let Err(error) = &written {
-        eprintln!("{}: {error}", folder.display());
+    let mut right = true;
+    for (name, functions) in CRATES {
+        if let Err(error) = store::write(folder, &format!("{name}.bin"), functions) {
+            eprintln!("{}: {error}", folder.display());
+            right = false;
+        }
     }
-    written.is_ok()
+    right
 }

@@ -5,13 +5,15 @@ use std::io::Error;
 use std::path::Path;
 
 use crate::functions::Function;
-use crate::inputs::{self, Draw};
+use crate::inputs::{self, Input};
 
 /// Records of each function, and how many of them may be edge inputs.
 const RECORDS: usize = 400;
 const EDGES: usize = 300;
 /// All pairs of this many edge inputs are at most `EDGES`.
 const EDGES_IN_PAIRS: usize = 17;
+/// As many where the function has edge inputs of its own: about half of `EDGES` are left for them.
+const EDGES_IN_PAIRS_BESIDE_OWN: usize = 12;
 const SEED: u64 = 1;
 const NAN: u64 = 0x7ff8_0000_0000_0000;
 
@@ -32,7 +34,7 @@ pub fn write(folder: &Path, name: &str, functions: &[Function]) -> Result<(), Er
 
 /// The function's number, the bits of x, of y (0 for a function of one number) and of the answer.
 fn records(function: &Function) -> Vec<[u64; 4]> {
-    let record = |(x, y): (f64, f64)| {
+    let record = |(x, y): Input| {
         let answer = function.reference(x, y);
         let answer = if answer.is_nan() {
             NAN
@@ -44,27 +46,44 @@ fn records(function: &Function) -> Vec<[u64; 4]> {
     inputs(function).into_iter().map(record).collect()
 }
 
-/// Edge inputs, evenly sampled if they are too many, then drawn ones; none stands twice.
-fn inputs(function: &Function) -> Vec<(f64, f64)> {
-    let edges = if function.takes_two() {
+/// Edge inputs, then drawn ones; none stands twice.
+fn inputs(function: &Function) -> Vec<Input> {
+    let seed = function.seed(SEED);
+    let drawn = inputs::drawn(function.takes_two(), function.own, seed);
+    let mut inputs = edges(function);
+    add_new(&mut inputs, drawn, RECORDS);
+    inputs
+}
+
+/// Edge inputs of all functions, then the function's own, evenly sampled where they are too many.
+fn edges(function: &Function) -> Vec<Input> {
+    let all = if !function.takes_two() {
+        inputs::edges().into_iter().map(|x| (x, 0.0)).collect()
+    } else if function.own.is_none() {
         inputs::edge_pairs(EDGES_IN_PAIRS)
     } else {
-        inputs::edges().into_iter().map(|x| (x, 0.0)).collect()
+        inputs::edge_pairs(EDGES_IN_PAIRS_BESIDE_OWN)
     };
-    let mut inputs = sampled(&edges, EDGES);
-    let mut draw = Draw::new(function.seed(SEED));
-    let bits = |(x, y): (f64, f64)| (x.to_bits(), y.to_bits());
-    while inputs.len() < RECORDS {
-        let drawn = if function.takes_two() {
-            draw.pair()
-        } else {
-            (draw.number(), 0.0)
-        };
-        if inputs.iter().all(|&input| bits(input) != bits(drawn)) {
-            inputs.push(drawn);
+    let mut edges = sampled(&all, EDGES);
+    if let Some(own) = function.own {
+        add_new(&mut edges, (own.limits)(), EDGES);
+        let left = EDGES - edges.len();
+        add_new(&mut edges, sampled(&(own.edges)(), left), EDGES);
+    }
+    edges
+}
+
+/// Adds those of `more` that are not there yet, until there are `limit`.
+fn add_new(inputs: &mut Vec<Input>, more: impl IntoIterator<Item = Input>, limit: usize) {
+    let bits = |(x, y): Input| (x.to_bits(), y.to_bits());
+    for new in more {
+        if inputs.len() == limit {
+            break;
+        }
+        if inputs.iter().all(|&input| bits(input) != bits(new)) {
+            inputs.push(new);
         }
     }
-    inputs
 }
 
 /// At most `many` of `all`, evenly spread.
@@ -77,7 +96,9 @@ fn sampled<T: Copy>(all: &[T], many: usize) -> Vec<T> {
 mod tests {
     use super::{RECORDS, inputs, records, sampled};
     use crate::floats::FUNCTIONS;
+    use crate::functions::Function;
     use crate::inputs::edges;
+    use crate::{CRATES, elementary};
 
     #[test]
     fn samples_are_spread() {
@@ -87,29 +108,45 @@ mod tests {
 
     #[test]
     fn each_function_has_its_records_with_all_edges() {
-        for function in &FUNCTIONS {
+        for function in CRATES.iter().flat_map(|(_, functions)| *functions) {
             let mut records = records(function);
             assert_eq!(records.len(), RECORDS);
             records.sort_unstable();
             records.dedup();
             assert_eq!(records.len(), RECORDS);
         }
-        let first: Vec<u64> = inputs(&FUNCTIONS[0])[..edges().len()]
-            .iter()
-            .map(|(x, _)| x.to_bits())
-            .collect();
         let all: Vec<u64> = edges().into_iter().map(f64::to_bits).collect();
-        assert_eq!(first, all);
+        for function in [&FUNCTIONS[0], &elementary::FUNCTIONS[0]] {
+            let first: Vec<u64> = inputs(function)[..edges().len()]
+                .iter()
+                .map(|(x, _)| x.to_bits())
+                .collect();
+            assert_eq!(first, all);
+        }
+    }
+
+    #[test]
+    fn all_limits_are_stored() {
+        for function in &elementary::FUNCTIONS {
+            let stored = records(function);
+            let own = function.own.expect("it has inputs of its own");
+            for (x, y) in (own.limits)() {
+                let same = |record: &[u64; 4]| record[1..3] == [x.to_bits(), y.to_bits()];
+                assert!(stored.iter().any(same), "{} {x:?} {y:?}", function.name);
+            }
+        }
+    }
+
+    fn has(functions: &[Function], function: usize, record: [u64; 4]) {
+        assert!(
+            records(&functions[function]).contains(&record),
+            "{record:x?}"
+        );
     }
 
     #[test]
     fn known_records() {
-        let has = |function: usize, record: [u64; 4]| {
-            assert!(
-                records(&FUNCTIONS[function]).contains(&record),
-                "{record:x?}"
-            );
-        };
+        let has = |function, record| has(&FUNCTIONS, function, record);
         let bits = f64::to_bits;
         has(0, [1, bits(-1.0), 0, bits(1.0)]);
         has(1, [2, 0xfff8_0000_0000_0001, 0, bits(1.0)]);
@@ -121,5 +158,26 @@ mod tests {
         has(7, [8, bits(-0.0), bits(0.0), bits(-0.0)]);
         has(8, [9, bits(-0.0), 0, bits(-1.0)]);
         has(9, [10, bits(0.0), bits(-0.0), bits(0.0)]);
+    }
+
+    #[test]
+    fn known_records_of_elementary() {
+        let has = |function, record| has(&elementary::FUNCTIONS, function, record);
+        let bits = f64::to_bits;
+        let infinite = bits(f64::INFINITY);
+        let above = bits(709.782712893384_f64.next_up());
+        has(0, [11, above, 0, infinite]);
+        has(0, [11, bits(1.0), 0, 0x4005_bf0a_8b14_576a]);
+        has(1, [12, bits(-1074.0), 0, 1]);
+        has(2, [13, bits(-0.0), 0, bits(-0.0)]);
+        has(3, [14, bits(-0.0), 0, bits(f64::NEG_INFINITY)]);
+        has(3, [14, bits(3.0), 0, 0x3ff1_93ea_7aad_030b]);
+        has(4, [15, super::NAN, bits(-0.0), bits(1.0)]);
+        has(4, [15, bits(0.5), bits(f64::NEG_INFINITY), infinite]);
+        has(5, [16, bits(100.0), 0, 0xbfe0_3425_b78c_4db8]);
+        has(5, [16, bits(1073741824.0), 0, super::NAN]);
+        has(6, [17, bits(-5.0), 0, 0x3fd2_2785_706b_4ada]);
+        has(7, [18, bits(2.25), 0, bits(1.5)]);
+        has(7, [18, bits(-1.0), 0, super::NAN]);
     }
 }

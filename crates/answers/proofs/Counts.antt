@@ -6,7 +6,7 @@ use native.Mathlib.Numerals.{add-one}
 use mathlib.Core.Bool.{Bool, true, false}
 use mathlib.Core.List.{List}
 use lib.ListN.{take, drop}
-use Rattle.answers.specs.Floats.{held, missed, differing}
+use Rattle.answers.specs.Answers.{held, missed, differing}
 
 pub missed-few : (b : Bool) → missed b ≤ 1
 missed-few true = omega arith

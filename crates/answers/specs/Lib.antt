@@ -1,2 +1,4 @@
 pub mod Words
 pub mod Floats
+pub mod Elementary
+pub mod Answers

@@ -1,9 +1,7 @@
-// A record of data/floats.bin: the number of a function of `floats`, x, y and the answer.
+// The functions of `floats` by their numbers.
 
 ghost use mathlib.Core.Path.{_≡_};
-ghost use Rattle.answers.specs.Floats.{answer, held, truth};
-use crate::record::number;
-use crate::record::word;
+ghost use Rattle.answers.specs.Floats.{floatsAnswer, truth};
 
 // A bool as a float.
 fn truth_of(b: bool) -> f64
@@ -13,8 +11,8 @@ fn truth_of(b: bool) -> f64
 }
 
 // Function n at x and y.
-fn answer_of(n: u64, x: f64, y: f64) -> f64
-    ensures { λ r. ⌜ r ≡ answer n x y ⌝ }
+pub fn answer_of(n: u64, x: f64, y: f64) -> f64
+    ensures { λ r. ⌜ r ≡ floatsAnswer n x y ⌝ }
 {
     match n {
         1 => floats::abs(x),
@@ -29,14 +27,4 @@ fn answer_of(n: u64, x: f64, y: f64) -> f64
         10 => truth_of(floats::alike(x, y)),
         _ => 0.0 / 0.0,
     }
-}
-
-// Whether the function of a record answers what the record holds.
-pub fn is_alike(s: &[u8]) -> bool
-    ensures { λ r. ⌜ r ≡ held (now (s .entry)) ⌝ }
-{
-    floats::alike(
-        answer_of(word(s, 0), number(s, 8), number(s, 16)),
-        number(s, 24),
-    )
 }

@@ -1,12 +1,14 @@
 // Replays the stored answers of the compared Rust (data/, written by compare/store) and compares bits.
 
+mod answer;
+mod elementary_answer;
 mod floats_answer;
 mod record;
 
 ghost use mathlib.Core.Path.{_≡_};
 ghost use Prim.Native.Nat.{_+_, _/_};
 ghost use lib.ListN.{length};
-ghost use Rattle.answers.specs.Floats.{differing, leftOver, missed};
+ghost use Rattle.answers.specs.Answers.{differing, leftOver, missed};
 use libc::STDOUT_FILENO;
 
 // How many records were replayed, and how many of them differ.
@@ -32,7 +34,7 @@ fn replay(s: &[u8]) -> Tally
     let mut at = 0;
     while 32 <= s.len() - at {
         let end = at + 32;
-        differences += one_unless(floats_answer::is_alike(&s[at..end]));
+        differences += one_unless(answer::is_alike(&s[at..end]));
         records += 1;
         at = end;
     }
@@ -70,8 +72,8 @@ fn replay_all(fd: i32) -> Tally {
     }
 }
 
-fn main() {
-    let path = b"floats.bin";
+// Replays one file and prints its line.
+fn report(path: &[u8], name: &[u8]) {
     let fd = os::open_read(path);
     if fd < 0 {
         os::fail(path);
@@ -79,9 +81,15 @@ fn main() {
     }
     let t = replay_all(fd);
     libc::close(fd);
-    io::write_all(STDOUT_FILENO, b"floats: ");
+    io::write_all(STDOUT_FILENO, name);
+    io::write_all(STDOUT_FILENO, b": ");
     io::print_decimal(STDOUT_FILENO, t.records);
     io::write_all(STDOUT_FILENO, b" answers, ");
     io::print_decimal(STDOUT_FILENO, t.differences);
     io::write_all(STDOUT_FILENO, b" differences\n");
+}
+
+fn main() {
+    report(b"floats.bin", b"floats");
+    report(b"elementary.bin", b"elementary");
 }

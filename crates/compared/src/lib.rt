@@ -3,6 +3,7 @@
 ghost use mathlib.Core.Path.{_≡_};
 ghost use lib.Ieee.{isNan, toSigned};
 ghost use Rattle.floats.specs.Functions.{alike, absolute, infinite, truncated, fraction, lesser, greater, signOf};
+ghost use Rattle.elementary.specs.Elementary.{exp, exp2, expM1, ln, power, sin, cos, squareRoot};
 
 #[no_mangle]
 pub extern "C" fn compared_abs(x: f64) -> f64
@@ -72,4 +73,60 @@ pub extern "C" fn compared_alike(a: f64, b: f64) -> bool
     ensures { λ r. ⌜ r ≡ alike a b ⌝ }
 {
     floats::alike(a, b)
+}
+
+#[no_mangle]
+pub extern "C" fn compared_exp(y: f64) -> f64
+    ensures { λ r. ⌜ r ≡ exp y ⌝ }
+{
+    elementary::exp(y)
+}
+
+#[no_mangle]
+pub extern "C" fn compared_exp2(y: f64) -> f64
+    ensures { λ r. ⌜ r ≡ exp2 y ⌝ }
+{
+    elementary::exp2(y)
+}
+
+#[no_mangle]
+pub extern "C" fn compared_exp_m1(y: f64) -> f64
+    ensures { λ r. ⌜ r ≡ expM1 y ⌝ }
+{
+    elementary::exp_m1(y)
+}
+
+#[no_mangle]
+pub extern "C" fn compared_ln(b: f64) -> f64
+    ensures { λ r. ⌜ r ≡ ln b ⌝ }
+{
+    elementary::ln(b)
+}
+
+#[no_mangle]
+pub extern "C" fn compared_pow(b: f64, p: f64) -> f64
+    ensures { λ r. ⌜ r ≡ power b p ⌝ }
+{
+    elementary::pow(b, p)
+}
+
+#[no_mangle]
+pub extern "C" fn compared_sin(y: f64) -> f64
+    ensures { λ r. ⌜ r ≡ sin y ⌝ }
+{
+    elementary::sin(y)
+}
+
+#[no_mangle]
+pub extern "C" fn compared_cos(y: f64) -> f64
+    ensures { λ r. ⌜ r ≡ cos y ⌝ }
+{
+    elementary::cos(y)
+}
+
+#[no_mangle]
+pub extern "C" fn compared_square_root(x: f64) -> f64
+    ensures { λ r. ⌜ r ≡ squareRoot x ⌝ }
+{
+    elementary::square_root(x)
 }

@@ -37,7 +37,7 @@ add-at f (fin u m e) (fin r n d) s a t b c C v w =
     ∙ ap (λ (z : Bool). sum f z a r b c) (v .0)
     ∙ ap (λ (z : Bool). sum f s a z b c) (w .0)
 
-sub-is : (f : Format) (x y : Float) → sub f x y ≡ add f x (neg y)
+pub sub-is : (f : Format) (x y : Float) → sub f x y ≡ add f x (neg y)
 unfolding sub
 sub-is f x y = refl
 

@@ -9,4 +9,5 @@ pub mod Parts
 pub mod Signs
 pub mod Cuts
 pub mod Truncation
+pub mod Bounds
 pub mod Edges

@@ -88,10 +88,10 @@ round-mono-signed f true a c true b d C D h = both-below f a c b d C D h
 -- ---- a sum keeps the order in its first operand
 
 -- the sign and the size of a sum, as `sum` has them
-abbrev sumSign : Bool → ℕ → Bool → ℕ → Bool
+abbrev pub sumSign : Bool → ℕ → Bool → ℕ → Bool
 sumSign s a r e = cond (Bool·beq s r) s (cond (ltb a e) r (s && ltb e a))
 
-abbrev sumSize : Bool → ℕ → Bool → ℕ → ℕ
+abbrev pub sumSize : Bool → ℕ → Bool → ℕ → ℕ
 sumSize s a r e = cond (Bool·beq s r) (a + e) (cond (ltb a e) (e - a) (a - e))
 
 pub sum-round : (f : Format) (s : Bool) (a : ℕ) (r : Bool) (e c : ℕ) → sum f s a r e c ≡ round f (sumSign s a r e) (sumSize s a r e) c

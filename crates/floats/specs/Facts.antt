@@ -27,3 +27,12 @@ pub record Grid (f : Format) (x : Float) : Type 0 where
   pub small : q < 2 ^ prec f
   pub in-range : q * 2 ^ j < overflow f
   pub value : HasValue x sign (q * 2 ^ j) (2 ^ low f)
+
+-- a finite value with the sign s and a size from l / d to u / d
+pub record Between (x : Float) (s : Bool) (l u d : ℕ) : Type 0 where
+  pub size : ℕ
+  pub over : ℕ
+  pub positive : 0 < over
+  pub value : HasValue x s size over
+  pub least : l * over ≤ size * d
+  pub most : size * d ≤ u * over

@@ -4,7 +4,7 @@ use mathlib.Core.Path.{_≡_, refl}
 use Prim.Native.Nat.{_+_, _*_, _-_, _/_, _%_, _≤_}
 use lib.Dec.{eqb}
 use lib.ListN.{length}
-use Rattle.answers.specs.Floats.{differing}
+use Rattle.answers.specs.Answers.{differing}
 use Rattle.answers.proofs.Counts.{missed-few, one-more}
 use Rattle.answers.proofs.replay.Statement.{statement}
 use Rattle.answers.proofs.replay.Tie as tie

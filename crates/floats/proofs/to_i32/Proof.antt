@@ -1,4 +1,4 @@
--- `floats::to_i32` meets its contract, by the laws of `proofs/Casts.antt`.
+-- `floats::to_i32` meets its contract, by the laws of `proofs/Cuts.antt`.
 use mathlib.Core.Path.{_≡_, sym, _∙_}
 use borrow.Author.Needs.{sfits-of}
 use lib.Dec.{lit≤}

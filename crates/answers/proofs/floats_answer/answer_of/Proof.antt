@@ -4,12 +4,12 @@ use borrow.Author.Tests.{ne-eqb}
 use lib.Ieee.{div, ofBits}
 use mir.Syntax.{w32}
 use mir.ValLaws.{toZ-ofZ}
-use Rattle.answers.specs.Floats.{answer}
+use Rattle.answers.specs.Floats.{floatsAnswer}
 use Rattle.answers.proofs.floats_answer.answer_of.Statement.{statement}
 use Rattle.answers.proofs.floats_answer.answer_of.Tie as tie
 
 pub answer-of-spec : {M : Type 1} → statement M
-unfolding answer div ofBits
+unfolding floatsAnswer div ofBits
 answer-of-spec =
     tie.close
     (tie.spec

@@ -1,7 +1,7 @@
--- `answers::floats_answer::is_alike` meets its contract: the callees' results, in the order of the code.
-use Rattle.answers.specs.Floats.{held}
-use Rattle.answers.proofs.floats_answer.is_alike.Statement.{statement}
-use Rattle.answers.proofs.floats_answer.is_alike.Tie as tie
+-- `answers::answer::is_alike` meets its contract: the callees' results, in the order of the code.
+use Rattle.answers.specs.Answers.{held}
+use Rattle.answers.proofs.answer.is_alike.Statement.{statement}
+use Rattle.answers.proofs.answer.is_alike.Tie as tie
 
 pub is-alike-spec : {M : Type 1} → statement M
 unfolding held

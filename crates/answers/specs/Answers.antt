@@ -1,0 +1,33 @@
+-- The stored answers (README.md): which of them our functions give.
+use Prim.Native.Nat.{ℕ, zero, suc, _+_, _*_, _%_}
+use mathlib.Core.Bool.{Bool, cond}
+use mathlib.Core.List.{List}
+use lib.ListN.{length, take, drop}
+use lib.Dec.{eqb, leb}
+use lib.Ieee.{Float}
+use Rattle.floats.specs.Functions.{alike}
+use Rattle.floats.specs.Operations.{bits}
+use Rattle.answers.specs.Words.{wordAt}
+use Rattle.answers.specs.Floats.{floatsAnswer}
+use Rattle.answers.specs.Elementary.{elementaryAnswer}
+
+-- function n at x and y: the numbers up to 10 are those of `floats`
+unfoldable pub answer : ℕ → Float → Float → Float
+answer n x y = cond (leb n 10) (floatsAnswer n x y) (elementaryAnswer n x y)
+
+-- whether the function of a record answers what the record holds
+unfoldable pub held : List ℕ → Bool
+held s = alike (answer (wordAt s 0) (bits (wordAt s 8)) (bits (wordAt s 16))) (bits (wordAt s 24))
+
+-- 1 where a test failed
+abbrev pub missed : Bool → ℕ
+missed b = cond b 0 1
+
+-- how many of the first n records of s differ
+unfoldable pub differing : List ℕ → ℕ → ℕ
+differing s zero = 0
+differing s (suc n) = differing s n + missed (held (take 32 (drop (32 * n) s)))
+
+-- 1 where s has bytes left over after its last whole record
+abbrev pub leftOver : List ℕ → ℕ
+leftOver s = missed (eqb (length s % 32) 0)

@@ -1,0 +1,189 @@
+-- 01, "Elementary functions, the lowest layer", line by line: each step is one rounded operation, left to right. The definitions are shut: other crates
+-- cannot unfold them. What they may know of them are the contracts and the laws that proofs/ exports.
+pub mod Open
+pub mod Examples
+pub mod OpenRoot
+use mathlib.Core.Bool.{true, false, cond}
+use Prim.Native.Nat.{ℕ, zero, suc, _+_, _-_, _*_, _/_, _%_, _^_, compare}
+use lib.Dec.{leb}
+use lib.IntN.{ℤ, pos, negsuc, negℤ, _+ℤ_, _-ℤ_}
+use lib.Signed.{quotZ}
+use lib.Ieee.{Float, nan, inf, fin, binary64, prec, low, up, down, size, nearest, odd, lt, le, eq, ne, neg, toSigned}
+use Rattle.floats.specs.Operations.{_⊕_, _⊖_, _⊗_, _⊘_, float, whole, f0, f½, f1}
+use Rattle.elementary.specs.Constants.{log2e, ln2High, ln2Low, ln2, expHighest, expLowest, exp2Highest, exp2Lowest}
+use Rattle.elementary.specs.Constants.{twoOverPi, halfPiHigh, halfPiLow, circleEnd, root2, f2}
+
+-- "near(t) cuts t+0.5 (t ≥ 0) or t−0.5 towards zero"; casts to i32 saturate
+pub near : Float → ℤ
+near t = toSigned 31 (cond (le f0 t) (t ⊕ f½) (t ⊖ f½))
+
+-- n turns, for j = last + n − 1 down to last: p becomes f j p
+pub downTo : (ℕ → Float → Float) → ℕ → ℕ → Float → Float
+downTo f last zero p = p
+downTo f last (suc n) p = downTo f last n (f (last + n) p)
+
+-- ---- "exp y"
+
+-- "p = 1 + (r·p)/j"
+abbrev pub expTerm : Float → ℕ → Float → Float
+expTerm r j p = f1 ⊕ r ⊗ p ⊘ whole j
+
+-- "p = 1, then for j = 16 down to 1": `last` is 1 for exp and exp2, and 2 for exp_m1
+pub expSum : Float → ℕ → Float
+expSum r last = downTo (expTerm r) last (17 - last) f1
+
+-- 2 ^ k
+abbrev pub powerOfTwo : ℤ → Float
+powerOfTwo k = fin false 1 k
+
+-- "p·2^h·2^(k−h), h = k/2 cut"
+pub scaled : Float → ℤ → Float
+scaled p k = p ⊗ powerOfTwo (quotZ k (pos 2)) ⊗ powerOfTwo (k -ℤ quotZ k (pos 2))
+
+-- "r = (y − k·0.6931471803691238) − k·1.9082149292705877e-10"
+abbrev pub expRest : Float → Float → Float
+expRest y k = y ⊖ k ⊗ ln2High ⊖ k ⊗ ln2Low
+
+pub exp : Float → Float
+exp y =
+    cond (ne y y) y
+    (cond (lt expHighest y) (inf false)
+    (cond (lt y (neg expLowest)) f0
+    (scaled (expSum (expRest y (float (near (y ⊗ log2e)))) 1) (near (y ⊗ log2e)))))
+
+-- ---- "exp2 y": "k = near(y), r = (y−k)·0.6931471805599453, then p and scaling as above"
+
+pub exp2 : Float → Float
+exp2 y =
+    cond (ne y y) y
+    (cond (le exp2Highest y) (inf false)
+    (cond (lt y (neg exp2Lowest)) f0
+    (scaled (expSum ((y ⊖ float (near y)) ⊗ ln2) 1) (near y))))
+
+-- ---- "sin, cos"
+
+-- "q = near(y·0.6366197723675814)", the quarter turns in y
+abbrev pub quarters : Float → ℤ
+quarters y = near (y ⊗ twoOverPi)
+
+-- "r = (y − q·1.5707963267341256) − q·6.077100506506192e-11"
+abbrev pub circleRest : Float → ℤ → Float
+circleRest y q = y ⊖ float q ⊗ halfPiHigh ⊖ float q ⊗ halfPiLow
+
+-- "a = 1 − (z·a)/((2j)(2j+1))" for less = 0; "b likewise over (2j−1)(2j)" for less = 1
+abbrev pub circleTerm : ℕ → Float → ℕ → Float → Float
+circleTerm less z j a = f1 ⊖ z ⊗ a ⊘ whole ((2 * j - less) * (2 * j - less + 1))
+
+-- "a = 1, j = 9 down to 1"
+pub circleSum : ℕ → Float → Float
+circleSum less z = downTo (circleTerm less z) 1 9 f1
+
+-- "s = r·a" and "c = b", with z = r·r
+pub sine : Float → Float
+sine r = r ⊗ circleSum 0 (r ⊗ r)
+
+pub cosine : Float → Float
+cosine r = circleSum 1 (r ⊗ r)
+
+-- "The remainder modulo 4 is 0 to 3, also for negative q"
+pub quadrant : ℤ → ℕ
+quadrant (pos n) = n % 4
+quadrant (negsuc n) = 3 - n % 4
+
+-- "By q modulo 4": no other number is a remainder
+abbrev pub byQuadrant : ℕ → Float → Float → Float → Float → Float
+byQuadrant zero a b c d = a
+byQuadrant (suc zero) a b c d = b
+byQuadrant (suc (suc zero)) a b c d = c
+byQuadrant (suc (suc (suc zero))) a b c d = d
+byQuadrant (suc (suc (suc (suc n)))) a b c d = nan
+
+-- "sin s, c, −s, −c; cos c, −s, −c, s"
+pub sinIn : ℕ → Float → Float
+sinIn q r = byQuadrant q (sine r) (cosine r) (neg (sine r)) (neg (cosine r))
+
+pub cosIn : ℕ → Float → Float
+cosIn q r = byQuadrant q (cosine r) (neg (sine r)) (neg (cosine r)) (sine r)
+
+-- "NaN if not finite or size ≥ 2^30"
+abbrev pub onCircle : Float → Float → Float
+onCircle y r = cond (lt y circleEnd) (cond (lt (neg circleEnd) y) r nan) nan
+
+pub sin : Float → Float
+sin y = onCircle y (sinIn (quadrant (quarters y)) (circleRest y (quarters y)))
+
+pub cos : Float → Float
+cos y = onCircle y (cosIn (quadrant (quarters y)) (circleRest y (quarters y)))
+
+-- ---- "ln b"
+
+-- "a = 1/(2j+1) + z·a"
+abbrev pub lnTerm : Float → ℕ → Float → Float
+lnTerm z j a = f1 ⊘ whole (2 * j + 1) ⊕ z ⊗ a
+
+-- "a = 0, j = 12 down to 0"
+pub lnSum : Float → Float
+lnSum z = downTo (lnTerm z) 0 13 f0
+
+-- "((2·g)·a + e·1.9082149292705877e-10) + e·0.6931471803691238", with z = g·g
+abbrev pub lnBy : Float → Float → Float
+lnBy g e = f2 ⊗ g ⊗ lnSum (g ⊗ g) ⊕ e ⊗ ln2Low ⊕ e ⊗ ln2High
+
+-- "g = (m−1)/(m+1)"
+abbrev pub lnAt : Float → Float → Float
+lnAt m e = lnBy ((m ⊖ f1) ⊘ (m ⊕ f1)) e
+
+-- "if m ≥ 1.4142135623730951 halve m, add 1 to e"
+pub lnOf : Float → ℤ → Float
+lnOf m e = cond (le root2 m) (lnAt (m ⊗ f½) (float (e +ℤ pos 1))) (lnAt m (float e))
+
+-- "b = m·2^e, 1 ≤ m < 2": `fin s n e` is n·2^e, and n has `size n` binary digits, so that m is n·2^(1 − size n)
+pub ln : Float → Float
+ln nan = nan
+ln (inf s) = cond s nan (inf false)
+ln (fin s zero e) = inf true
+ln (fin true (suc n) e) = nan
+ln (fin false (suc n) e) = lnOf (fin false (suc n) (negℤ (pos (size (suc n) - 1)))) (e +ℤ pos (size (suc n) - 1))
+
+-- ---- "Power of b (0 or more, or NaN): 1 if p = 0; else exp(p·ln b)"; for other b the same formula
+
+pub power : Float → Float → Float
+power b p = cond (eq p f0) f1 (exp (p ⊗ ln b))
+
+-- ---- "exp_m1 y: exp(y) − 1 beyond size 0.5; else p = 1, j = 16 down to 2: p = 1 + (y·p)/j; y·p"
+
+pub expM1 : Float → Float
+expM1 y = cond (lt f½ y) (exp y ⊖ f1) (cond (lt y (neg f½)) (exp y ⊖ f1) (y ⊗ expSum y 2))
+
+-- ---- "Square root is IEEE 754's: nearest, ties to even, proved by comparing whole squares" (01; IEEE 754, squareRoot)
+
+-- the whole root of an n below 4 ^ d, binary digit by binary digit: that of n / 4, and one digit more
+pub rootDigits : ℕ → ℕ → ℕ
+rootDigits zero n = 0
+rootDigits (suc d) n = let q = rootDigits d (n / 4) in cond (leb ((2 * q + 1) * (2 * q + 1)) n) (2 * q + 1) (2 * q)
+
+-- the largest whole number whose square is at most n
+pub wholeRoot : ℕ → ℕ
+wholeRoot n = rootDigits (size n) n
+
+-- the whole number nearest to the root of x in units of 2 ^ c: q or q + 1, by how x compares with the square of the middle, q + 1/2; at a tie the even one
+pub roundedRoot : ℕ → ℕ → ℕ
+roundedRoot x c = let q = wholeRoot (x / 4 ^ c) in nearest q (compare (4 * x) ((2 * q + 1) * (2 * q + 1) * 4 ^ c))
+
+-- how many binary digits the root of x has beyond the 53 that the format keeps
+pub droppedDigits : ℕ → ℕ
+droppedDigits x = (size x + 1) / 2 - prec binary64
+
+-- the root of n units of 2 ^ -1074, as a float: in these units it is the root of n * 2 ^ 1074
+pub rootOfUnits : ℕ → Float
+rootOfUnits n =
+    let x = n * 2 ^ low binary64 in
+    let c = droppedDigits x in
+    odd (prec binary64) false (roundedRoot x c) c (low binary64)
+
+-- the square root at binary64: a zero stays, with its sign, and below 0 it is NaN
+pub squareRoot : Float → Float
+squareRoot nan = nan
+squareRoot (inf s) = cond s nan (inf false)
+squareRoot (fin s zero e) = fin s zero e
+squareRoot (fin s (suc m) e) = cond s nan (rootOfUnits (suc m * up e * 2 ^ low binary64 / down e))

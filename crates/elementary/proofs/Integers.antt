@@ -1,4 +1,4 @@
--- Laws of i32: half of one, and the rest, and a difference of two naturals, are i32s. Assumes nothing.
+-- Sizes of integers: half of one, the rest, and a difference of two naturals, for the casts to i32 and for the exponents of exp. Assumes nothing.
 use mathlib.Core.Path.{_≡_}
 use mathlib.Core.Bool.{Bool, true, false, cond}
 use Prim.Native.Nat.{ℕ, zero, suc, _+_, _-_, _*_, _/_, _≤_}
@@ -12,7 +12,7 @@ use mir.Syntax.{Width, w32}
 use mir.Val.{SFits, Fits}
 use mir.ValLaws.{sfits-le}
 
-pub mag-sub : (a b c : ℕ) → a ≤ c → b ≤ suc c → mag (subℕ a b) ≤ c
+mag-sub : (a b c : ℕ) → a ≤ c → b ≤ suc c → mag (subℕ a b) ≤ c
 mag-sub a b c p q = go (ltb a b)
   where
     go : (t : Bool) → mag (cond t (negsuc (b - suc a)) (pos (a - b))) ≤ c

@@ -21,7 +21,7 @@ no-nan e = rw (mul-mod-left e 4503599627370496) (go (eqb (e * 4503599627370496 %
     go false = tt
 
 -- a field above 0 and below 2047, and digits that are all 0
-pub of-field : (e : ℕ) → 0 < e → e < 2047 → ofBits binary64 (e * 4503599627370496) ≡ fin false 1 (minus (e + 51) 1074)
+of-field : (e : ℕ) → 0 < e → e < 2047 → ofBits binary64 (e * 4503599627370496) ≡ fin false 1 (minus (e + 51) 1074)
 unfolding ofBits ofFields odd trailingZeros
 of-field zero p q = absurd (omega arith)
 of-field (suc x) p q =

@@ -1,5 +1,5 @@
 -- The sine at whole quarter turns. With h = 2 n + 1, y is h quarter turns to within 2 ^ -41, so that near finds h, and what is left of y is at most 2 ^ -40,
--- whose cosine is exactly 1. P, C, H, L below are the digits of pi, twoOverPi, halfPiHigh and halfPiLow. Assumes nothing.
+-- whose cosine is exactly 1. The long numerals are the digits of the constants (ConstantValues.antt). Assumes nothing.
 use mathlib.Core.Path.{_≡_, refl, sym, _∙_, ap, subst}
 use mathlib.Core.Bool.{Bool, true, false, cond, _||_, _&&_}
 use Prim.Native.Nat.{ℕ, zero, suc, _+_, _-_, _*_, _/_, _%_, _^_, _≤_, _<_}
@@ -36,7 +36,7 @@ square r s b =
     let a = b .size in
     let c = b .over in
     let few = b .most in
-    let x : a * 1099511627776 ≤ c = omega arith in
+    let x : a * 2 ^ 40 ≤ c = omega arith in
     let y = mul-le-mul x x in
     subst (λ (z : Float). Between z false 0 1 (2 ^ 60))
     (sym (mul-at binary64 r r s a c s a c (b .positive) (b .positive) (b .value) (b .value) ∙ ap (λ (t : Bool). round binary64 t (a * a) (c * c)) (same s)))
@@ -143,7 +143,7 @@ near-whole x s h p q b = near-is x ∙ go s b
     go false b = rw (above-zero x (h * 4 - 1) (h * 4 + 1) 4 b) (middle f½ false half-value b)
     go true b = rw (below-zero x (h * 4 - 1) (h * 4 + 1) 4 (lit< tt) (omega arith) b, sub-is binary64 x f½) (middle (neg f½) true (neg-value f½ false 1 2 half-value) b)
 
--- k units of 2 ^ -41, times 2 over pi, are about h
+-- about h * pi / 2 in units of 2 ^ -41, k times 2 over pi is about h: 3454217652357 units are just below a quarter turn
 scaled-least : (h k : ℕ) → h ≤ 2005 → h * 3454217652357 ≤ k → (h * 4 - 1) * (2 ^ 41 * 2 ^ 53) ≤ k * 5734161139222659 * 2 ^ 2
 scaled-least h k p q = omega arith
 

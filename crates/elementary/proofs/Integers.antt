@@ -31,14 +31,14 @@ pub mag-diff : (a b c : ℕ) → a ≤ c → b ≤ c → mag (pos a -ℤ pos b) 
 mag-diff a zero c p q = omega arith
 mag-diff a (suc b) c p q = mag-sub a (suc b) c p (omega arith)
 
-more : (n x : ℕ) → x ≤ suc n / 2 → mag (negsuc n -ℤ negℤ (pos x)) ≤ n
-more n zero h = mag-sub 0 (suc n) n (omega arith) (omega arith)
-more zero (suc x) h = absurd (omega arith)
-more (suc n) (suc x) h = mag-sub (suc x) (suc (suc n)) (suc n) (omega arith) (omega arith)
+rest-below : (n x : ℕ) → x ≤ suc n / 2 → mag (negsuc n -ℤ negℤ (pos x)) ≤ n
+rest-below n zero h = mag-sub 0 (suc n) n (omega arith) (omega arith)
+rest-below zero (suc x) h = absurd (omega arith)
+rest-below (suc n) (suc x) h = mag-sub (suc x) (suc (suc n)) (suc n) (omega arith) (omega arith)
 
 mag-rest : (k : ℤ) → mag (k -ℤ quotZ k (pos 2)) ≤ mag k
 mag-rest (pos n) = mag-diff n (n / 2) n (omega arith) (omega arith)
-mag-rest (negsuc n) = more n (suc n / 2) (omega arith)
+mag-rest (negsuc n) = rest-below n (suc n / 2) (omega arith)
 
 pub half-fits : {w : Width} {k : ℤ} → SFits w k → SFits w (quotZ k (pos 2))
 half-fits {k = k} h = sfits-le (mag-half k) h
@@ -52,14 +52,14 @@ small-product a b p q = let k = mul-le-mul p q in omega arith
 
 -- ---- the two exponents that an exponent of at most 1081 is split into
 
-pub half-mag : (k : ℤ) → mag k ≤ 1081 → mag (quotZ k (pos 2)) ≤ 1021
-half-mag (pos n) h = omega arith
-half-mag (negsuc n) h = mag-neg (suc n / 2) 1021 (omega arith)
+pub half-exponent : (k : ℤ) → mag k ≤ 1081 → mag (quotZ k (pos 2)) ≤ 1021
+half-exponent (pos n) h = omega arith
+half-exponent (negsuc n) h = mag-neg (suc n / 2) 1021 (omega arith)
 
-less : (n x : ℕ) → x ≤ n → pos n -ℤ pos x ≡ pos (n - x)
-less n zero h = let e : n + 0 ≡ n - 0 = omega arith in rw e
-less n (suc x) h = rw (le-ltb n (suc x) h)
+pos-sub : (n x : ℕ) → x ≤ n → pos n -ℤ pos x ≡ pos (n - x)
+pos-sub n zero h = let e : n + 0 ≡ n - 0 = omega arith in rw e
+pos-sub n (suc x) h = rw (le-ltb n (suc x) h)
 
-pub rest-mag : (k : ℤ) → mag k ≤ 1081 → mag (k -ℤ quotZ k (pos 2)) ≤ 1021
-rest-mag (pos n) h = rw (less n (n / 2) (omega arith)) (omega arith)
-rest-mag (negsuc n) h = rw (negℤ-negℤ (pos (suc n / 2)), lt-ltb (suc n / 2) (suc n) (omega arith)) (omega arith)
+pub rest-exponent : (k : ℤ) → mag k ≤ 1081 → mag (k -ℤ quotZ k (pos 2)) ≤ 1021
+rest-exponent (pos n) h = rw (pos-sub n (n / 2) (omega arith)) (omega arith)
+rest-exponent (negsuc n) h = rw (negℤ-negℤ (pos (suc n / 2)), lt-ltb (suc n / 2) (suc n) (omega arith)) (omega arith)

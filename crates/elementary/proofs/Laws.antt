@@ -1,5 +1,5 @@
 -- What the crates above may know of the elementary functions, beside the theorems of QuarterTurns.antt and SquareRootNearest.antt. Assumes nothing.
-use mathlib.Core.Path.{_≡_, ap, _∙_}
+use mathlib.Core.Path.{_≡_, ap}
 use mathlib.Core.List.{List}
 use Prim.Native.Nat.{ℕ}
 use lib.ListN.{getD}

@@ -2,7 +2,7 @@ pub mod ConstantValues
 pub mod Countdown
 pub mod Integers
 pub mod PowersOfTwo
-pub mod ExponentRange
+pub mod NearRange
 pub mod Quadrants
 pub mod QuarterTurns
 pub mod Significand

@@ -16,8 +16,8 @@ use Rattle.elementary.specs.LnSteps.{lnOfPattern}
 use Rattle.elementary.proofs.Significand.{normal, subnormal}
 
 -- the next exponent
-pub next : (a b : ℕ) → pos (a + 1) -ℤ pos b ≡ pos a -ℤ pos b +ℤ pos 1
-next a b =
+pub next-exponent : (a b : ℕ) → pos (a + 1) -ℤ pos b ≡ pos a -ℤ pos b +ℤ pos 1
+next-exponent a b =
     +ℤ-assoc (pos a) (pos 1) (negℤ (pos b)) ∙ ap (λ (z : ℤ). pos a +ℤ z) (+ℤ-comm (pos 1) (negℤ (pos b))) ∙ sym (+ℤ-assoc (pos a) (negℤ (pos b)) (pos 1))
 
 above-zero : (n : ℕ) (e : ℤ) → 0 < suc n * up e

@@ -1,12 +1,12 @@
 -- The sine at whole quarter turns. With h = 2 n + 1, y is h quarter turns to within 2 ^ -41, so that near finds h, and what is left of y is at most 2 ^ -40,
 -- whose cosine is exactly 1. The long numerals are the digits of the constants (ConstantValues.antt). Assumes nothing.
 use mathlib.Core.Path.{_≡_, refl, sym, _∙_, ap, subst}
-use mathlib.Core.Bool.{Bool, true, false, cond, _||_, _&&_}
+use mathlib.Core.Bool.{Bool, true, false, cond}
 use Prim.Native.Nat.{ℕ, zero, suc, _+_, _-_, _*_, _/_, _%_, _^_, _≤_, _<_}
 use native.Mathlib.Nat.{mul-pos, mul-le-mul, mul-le-mul-right, mul-lt-mul-of-pos-right, lt-of-mul-lt-mul-right}
 use native.Mathlib.Omega.{arith}
-use borrow.Author.Tests.{lt-ltb, ne-eqb}
-use lib.Dec.{ltb, eqb, lit≤, lit<}
+use borrow.Author.Tests.{lt-ltb}
+use lib.Dec.{eqb, lit≤, lit<}
 use lib.IntN.{pos, negsuc, negℤ}
 use lib.Ieee.{Float, binary64, unlike, below, neg, lt, le, round, ofBits, toSigned}
 use lib.Ieee.Exact.{HasValue}
@@ -14,19 +14,20 @@ use Rattle.floats.specs.Operations.{_⊕_, _⊖_, _⊗_, _⊘_, float, whole, f
 use Rattle.floats.specs.Facts.{Between, signedInt}
 use Rattle.floats.proofs.Values.{rescale, neg-value, ofInt-value, ofInt-pos}
 use Rattle.floats.proofs.Arithmetic.{sub-is, mul-at, div-at}
-use Rattle.floats.proofs.Comparison.{lt-at, le-at}
-use Rattle.floats.proofs.Bounds.{round-between, value-between, between-value, neg-between, mul-between, plus-between, apart-between, close-between, cut-between, one-less}
-use Rattle.elementary.specs.Constants.{twoOverPi, halfPiHigh, halfPiLow, circleEnd}
-use Rattle.elementary.specs.Elementary.{near, quarters, circleRest, circleTerm, sine, cosine, quadrant, byQuadrant, sin}
-use Rattle.elementary.specs.Elementary.Open.{near-is, circleSum-is, cosine-is, quadrant-pos, quadrant-neg, sinIn-is, sin-is}
+use Rattle.floats.proofs.Comparison.{lt-at}
+use Rattle.floats.proofs.Wholes.{unlike-plus}
+use Rattle.floats.proofs.Bounds.{round-between, value-between, between-value, neg-between, mul-between, plus-between, apart-between, close-between}
+use Rattle.floats.proofs.Bounds.{above-zero, below-zero, cut-between, one-less}
+use Rattle.elementary.specs.Constants.{twoOverPi, halfPiHigh, halfPiLow, angleEnd}
+use Rattle.elementary.specs.Elementary.{near, quarters, angleRest, trigTerm, sine, cosine, quadrant, byQuadrant, sin}
+use Rattle.elementary.specs.Elementary.Open.{near-is, trigSum-is, cosine-is, quadrant-pos, quadrant-neg, sinIn-is, sin-is}
 use Rattle.elementary.specs.QuarterTurns.{pi, QuarterTurns}
 use Rattle.elementary.proofs.ConstantValues.{one-value, half-value, pi-value, two-over-pi-value, half-pi-high-value, half-pi-low-value}
 use Rattle.elementary.proofs.Countdown.{stays}
 
 -- a product with a positive value keeps the sign
 keeps : (x : Float) (s : Bool) (l u d : ℕ) → Between x (unlike s false) l u d → Between x s l u d
-keeps x true l u d b = b
-keeps x false l u d b = b
+keeps x s l u d b = subst (λ (t : Bool). Between x t l u d) (unlike-plus s) b
 
 -- ---- the cosine of a size of at most 2 ^ -40 is 1
 
@@ -59,7 +60,7 @@ quotient x n p q b =
     under a c h = let k = mul-le-mul-right c p in omega arith
 
 -- one turn of the loop
-one-term : (z : Float) → Between z false 0 1 (2 ^ 60) → (j : ℕ) → 1 ≤ j → j < 1 + 9 → circleTerm 1 z j f1 ≡ f1
+one-term : (z : Float) → Between z false 0 1 (2 ^ 60) → (j : ℕ) → 1 ≤ j → j < 1 + 9 → trigTerm 1 z j f1 ≡ f1
 unfolding ofBits
 one-term z b j p q =
     let m = 2 * j - 1 in
@@ -73,47 +74,25 @@ one-term z b j p q =
     (mul-between z f1 false false 0 1 (2 ^ 60) 1 1 0 1 60 (lit< tt) (lit< tt) (lit< tt) (lit< tt) (lit≤ tt) b one-value (lit≤ tt) (lit≤ tt)))
 
 cosine-one : (r : Float) (s : Bool) → Between r s 0 2 (2 ^ 41) → cosine r ≡ f1
-cosine-one r s b = cosine-is r ∙ circleSum-is 1 (r ⊗ r) ∙ stays (circleTerm 1 (r ⊗ r)) 1 9 f1 (one-term (r ⊗ r) (square r s b))
+cosine-one r s b = cosine-is r ∙ trigSum-is 1 (r ⊗ r) ∙ stays (trigTerm 1 (r ⊗ r)) 1 9 f1 (one-term (r ⊗ r) (square r s b))
 
--- ---- comparisons
+-- ---- the test for the range of angles
 
-zero-over : (c : ℕ) → HasValue f0 false 0 c
-unfolding ofBits
-zero-over c = (refl, none c)
-  where
-    none : (c : ℕ) → 0 * c ≡ 0 * 1
-    none c = omega arith
-
-above-zero : (x : Float) (l u d : ℕ) → Between x false l u d → le f0 x ≡ true
-above-zero x l u d b = le-at f0 x false 0 false (b .size) (b .over) (b .positive) (zero-over (b .over)) (b .value) ∙ go (b .size)
-  where
-    go : (a : ℕ) → (ltb 0 a || (eqb 0 a && true)) ≡ true
-    go zero = refl
-    go (suc a) = rw (lt-ltb 0 (suc a) (omega arith))
-
-below-zero : (x : Float) (l u d : ℕ) → 0 < d → 0 < l → Between x true l u d → le f0 x ≡ false
-below-zero x l u d D L b =
-    le-at f0 x false 0 true (b .size) (b .over) (b .positive) (zero-over (b .over)) (b .value) ∙ go (b .size) (b .over) (b .positive) (b .least)
-  where
-    go : (a c : ℕ) → 0 < c → l * c ≤ a * d → (false || (eqb 0 a && (false || true))) ≡ false
-    go zero c C h = let k = mul-pos L C in absurd (omega arith)
-    go (suc a) c C h = rw (ne-eqb 0 (suc a) (λ e. omega arith))
-
-end-over : (c : ℕ) → HasValue circleEnd false (2 ^ 30 * c) c
+end-over : (c : ℕ) → HasValue angleEnd false (2 ^ 30 * c) c
 unfolding ofBits
 end-over c = (refl, same c)
   where
     same : (c : ℕ) → 2 ^ 30 * c ≡ 2 ^ 30 * c * 1
     same c = omega arith
 
-on-circle : (x : Float) (s : Bool) (l u d : ℕ) → 0 < d → u < 2 ^ 30 * d → Between x s l u d → (lt x circleEnd ≡ true) × (lt (neg circleEnd) x ≡ true)
-on-circle x s l u d D h b =
+in-angle-range : (x : Float) (s : Bool) (l u d : ℕ) → 0 < d → u < 2 ^ 30 * d → Between x s l u d → (lt x angleEnd ≡ true) × (lt (neg angleEnd) x ≡ true)
+in-angle-range x s l u d D h b =
     let c = b .over in
     let a = b .size in
     let e = end-over c in
     let k = less a c (b .positive) (b .most) in (
-      lt-at x circleEnd s a false (2 ^ 30 * c) c (b .positive) (b .value) e ∙ first s a (2 ^ 30 * c) k,
-      lt-at (neg circleEnd) x true (2 ^ 30 * c) s a c (b .positive) (neg-value circleEnd false (2 ^ 30 * c) c e) (b .value) ∙ second s a (2 ^ 30 * c) k,
+      lt-at x angleEnd s a false (2 ^ 30 * c) c (b .positive) (b .value) e ∙ first s a (2 ^ 30 * c) k,
+      lt-at (neg angleEnd) x true (2 ^ 30 * c) s a c (b .positive) (neg-value angleEnd false (2 ^ 30 * c) c e) (b .value) ∙ second s a (2 ^ 30 * c) k,
     )
   where
     less : (a c : ℕ) → 0 < c → a * d ≤ u * c → a < 2 ^ 30 * c
@@ -141,7 +120,7 @@ near-whole x s h p q b = near-is x ∙ go s b
 
     go : (s : Bool) → Between x s (h * 4 - 1) (h * 4 + 1) 4 → toSigned 31 (cond (le f0 x) (x ⊕ f½) (x ⊖ f½)) ≡ signedInt s h
     go false b = rw (above-zero x (h * 4 - 1) (h * 4 + 1) 4 b) (middle f½ false half-value b)
-    go true b = rw (below-zero x (h * 4 - 1) (h * 4 + 1) 4 (lit< tt) (omega arith) b, sub-is binary64 x f½) (middle (neg f½) true (neg-value f½ false 1 2 half-value) b)
+    go true b = rw (below-zero x (h * 4 - 1) (h * 4 + 1) 4 (omega arith) b, sub-is binary64 x f½) (middle (neg f½) true (neg-value f½ false 1 2 half-value) b)
 
 -- about h * pi / 2 in units of 2 ^ -41, k times 2 over pi is about h: 3454217652357 units are just below a quarter turn
 scaled-least : (h k : ℕ) → h ≤ 2005 → h * 3454217652357 ≤ k → (h * 4 - 1) * (2 ^ 41 * 2 ^ 53) ≤ k * 5734161139222659 * 2 ^ 2
@@ -207,20 +186,20 @@ module _ (w : Float) (s : Bool) (n : ℕ) (few : n ≤ 1002) (half : HasValue w 
       (apart-between y (neg (q ⊗ halfPiHigh)) s k (k + 1) high high (k - high) (k + 1 - high) 41 (omega arith) (omega arith) (omega arith) (lit≤ tt)
       y-between (neg-between (q ⊗ halfPiHigh) s high high (2 ^ 41) high-between) (omega arith) (omega arith))
 
-  rest : (r : Bool) × Between (circleRest y (signedInt s h)) r 0 2 (2 ^ 41)
+  rest : (r : Bool) × Between (angleRest y (signedInt s h)) r 0 2 (2 ^ 41)
   rest =
       rw (sub-is binary64 (y ⊖ q ⊗ halfPiHigh) (q ⊗ halfPiLow))
       (close-between (y ⊖ q ⊗ halfPiHigh) (neg (q ⊗ halfPiLow)) s (k - high) (k + 1 - high) low (low + 1) 2 41 (lit< tt) (lit≤ tt)
       first-rest (neg-between (q ⊗ halfPiLow) s low (low + 1) (2 ^ 41) low-between) (omega arith) (omega arith))
 
-  cosine-is-one : cosine (circleRest y (signedInt s h)) ≡ f1
-  cosine-is-one = cosine-one (circleRest y (signedInt s h)) (rest .0) (rest .1)
+  cosine-is-one : cosine (angleRest y (signedInt s h)) ≡ f1
+  cosine-is-one = cosine-one (angleRest y (signedInt s h)) (rest .0) (rest .1)
 
   -- the quadrant is 1 or 3
-  pub turned : sin y ≡ byQuadrant (quadrant (signedInt s h)) (sine (circleRest y (signedInt s h))) f1 (neg (sine (circleRest y (signedInt s h)))) (neg f1)
+  pub turned : sin y ≡ byQuadrant (quadrant (signedInt s h)) (sine (angleRest y (signedInt s h))) f1 (neg (sine (angleRest y (signedInt s h)))) (neg f1)
   turned =
-      let inside = on-circle y s k (k + 1) (2 ^ 41) (lit< tt) (omega arith) y-between in
-      rw (sin-is y, inside .0, inside .1, quarters-are, sinIn-is (quadrant (signedInt s h)) (circleRest y (signedInt s h)), cosine-is-one)
+      let inside = in-angle-range y s k (k + 1) (2 ^ 41) (lit< tt) (omega arith) y-between in
+      rw (sin-is y, inside .0, inside .1, quarters-are, sinIn-is (quadrant (signedInt s h)) (angleRest y (signedInt s h)), cosine-is-one)
 
 -- for even n the quadrant of h is 1, and 3 for odd n; that of −h is the other one
 odd-quadrant : (n : ℕ) → quadrant (pos (2 * n + 1)) ≡ 1 + 2 * (n % 2)

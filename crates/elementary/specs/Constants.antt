@@ -92,12 +92,12 @@ unfolding decimal ofBits
 halfPiLow-is = refl
 
 -- 2 ^ 30: from this size on sin and cos are NaN
-abbrev pub circleEnd : Float
-circleEnd = bits 0x41d0_0000_0000_0000
+abbrev pub angleEnd : Float
+angleEnd = bits 0x41d0_0000_0000_0000
 
-pub circleEnd-is : circleEnd ≡ decimal 1073741824 0
+pub angleEnd-is : angleEnd ≡ decimal 1073741824 0
 unfolding decimal ofBits
-circleEnd-is = refl
+angleEnd-is = refl
 
 -- 1.4142135623730951: √2
 abbrev pub root2 : Float

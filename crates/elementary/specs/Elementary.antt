@@ -11,9 +11,9 @@ use lib.Signed.{quotZ}
 use lib.Ieee.{Float, nan, inf, fin, binary64, prec, low, up, down, size, nearest, odd, lt, le, eq, ne, neg, toSigned}
 use Rattle.floats.specs.Operations.{_⊕_, _⊖_, _⊗_, _⊘_, float, whole, f0, f½, f1}
 use Rattle.elementary.specs.Constants.{log2e, ln2High, ln2Low, ln2, expHighest, expLowest, exp2Highest, exp2Lowest}
-use Rattle.elementary.specs.Constants.{twoOverPi, halfPiHigh, halfPiLow, circleEnd, root2, f2}
+use Rattle.elementary.specs.Constants.{twoOverPi, halfPiHigh, halfPiLow, angleEnd, root2, f2}
 
--- "near(t) cuts t+0.5 (t ≥ 0) or t−0.5 towards zero"; casts to i32 saturate
+-- "near(t) cuts t+0.5 (t ≥ 0) or t−0.5 towards zero": a cast to i32, which never saturates here (proofs/NearRange.antt)
 pub near : Float → ℤ
 near t = toSigned 31 (cond (le f0 t) (t ⊕ f½) (t ⊖ f½))
 
@@ -67,23 +67,23 @@ abbrev pub quarters : Float → ℤ
 quarters y = near (y ⊗ twoOverPi)
 
 -- "r = (y − q·1.5707963267341256) − q·6.077100506506192e-11"
-abbrev pub circleRest : Float → ℤ → Float
-circleRest y q = y ⊖ float q ⊗ halfPiHigh ⊖ float q ⊗ halfPiLow
+abbrev pub angleRest : Float → ℤ → Float
+angleRest y q = y ⊖ float q ⊗ halfPiHigh ⊖ float q ⊗ halfPiLow
 
 -- "a = 1 − (z·a)/((2j)(2j+1))" for less = 0; "b likewise over (2j−1)(2j)" for less = 1
-abbrev pub circleTerm : ℕ → Float → ℕ → Float → Float
-circleTerm less z j a = f1 ⊖ z ⊗ a ⊘ whole ((2 * j - less) * (2 * j - less + 1))
+abbrev pub trigTerm : ℕ → Float → ℕ → Float → Float
+trigTerm less z j a = f1 ⊖ z ⊗ a ⊘ whole ((2 * j - less) * (2 * j - less + 1))
 
 -- "a = 1, j = 9 down to 1"
-pub circleSum : ℕ → Float → Float
-circleSum less z = downTo (circleTerm less z) 1 9 f1
+pub trigSum : ℕ → Float → Float
+trigSum less z = downTo (trigTerm less z) 1 9 f1
 
 -- "s = r·a" and "c = b", with z = r·r
 pub sine : Float → Float
-sine r = r ⊗ circleSum 0 (r ⊗ r)
+sine r = r ⊗ trigSum 0 (r ⊗ r)
 
 pub cosine : Float → Float
-cosine r = circleSum 1 (r ⊗ r)
+cosine r = trigSum 1 (r ⊗ r)
 
 -- "The remainder modulo 4 is 0 to 3, also for negative q"
 pub quadrant : ℤ → ℕ
@@ -106,14 +106,14 @@ pub cosIn : ℕ → Float → Float
 cosIn q r = byQuadrant q (cosine r) (neg (sine r)) (neg (cosine r)) (sine r)
 
 -- "NaN if not finite or size ≥ 2^30"
-abbrev pub onCircle : Float → Float → Float
-onCircle y r = cond (lt y circleEnd) (cond (lt (neg circleEnd) y) r nan) nan
+abbrev pub angleOrNan : Float → Float → Float
+angleOrNan y r = cond (lt y angleEnd) (cond (lt (neg angleEnd) y) r nan) nan
 
 pub sin : Float → Float
-sin y = onCircle y (sinIn (quadrant (quarters y)) (circleRest y (quarters y)))
+sin y = angleOrNan y (sinIn (quadrant (quarters y)) (angleRest y (quarters y)))
 
 pub cos : Float → Float
-cos y = onCircle y (cosIn (quadrant (quarters y)) (circleRest y (quarters y)))
+cos y = angleOrNan y (cosIn (quadrant (quarters y)) (angleRest y (quarters y)))
 
 -- ---- "ln b"
 
@@ -126,16 +126,16 @@ pub lnSum : Float → Float
 lnSum z = downTo (lnTerm z) 0 13 f0
 
 -- "((2·g)·a + e·1.9082149292705877e-10) + e·0.6931471803691238", with z = g·g
-abbrev pub lnBy : Float → Float → Float
-lnBy g e = f2 ⊗ g ⊗ lnSum (g ⊗ g) ⊕ e ⊗ ln2Low ⊕ e ⊗ ln2High
+abbrev pub lnFromQuotient : Float → Float → Float
+lnFromQuotient g e = f2 ⊗ g ⊗ lnSum (g ⊗ g) ⊕ e ⊗ ln2Low ⊕ e ⊗ ln2High
 
 -- "g = (m−1)/(m+1)"
-abbrev pub lnAt : Float → Float → Float
-lnAt m e = lnBy ((m ⊖ f1) ⊘ (m ⊕ f1)) e
+abbrev pub lnNearOne : Float → Float → Float
+lnNearOne m e = lnFromQuotient ((m ⊖ f1) ⊘ (m ⊕ f1)) e
 
 -- "if m ≥ 1.4142135623730951 halve m, add 1 to e"
-pub lnOf : Float → ℤ → Float
-lnOf m e = cond (le root2 m) (lnAt (m ⊗ f½) (float (e +ℤ pos 1))) (lnAt m (float e))
+pub lnOfParts : Float → ℤ → Float
+lnOfParts m e = cond (le root2 m) (lnNearOne (m ⊗ f½) (float (e +ℤ pos 1))) (lnNearOne m (float e))
 
 -- "b = m·2^e, 1 ≤ m < 2": `fin s n e` is n·2^e, and n has `size n` binary digits, so that m is n·2^(1 − size n)
 pub ln : Float → Float
@@ -143,7 +143,7 @@ ln nan = nan
 ln (inf s) = cond s nan (inf false)
 ln (fin s zero e) = inf true
 ln (fin true (suc n) e) = nan
-ln (fin false (suc n) e) = lnOf (fin false (suc n) (negℤ (pos (size (suc n) - 1)))) (e +ℤ pos (size (suc n) - 1))
+ln (fin false (suc n) e) = lnOfParts (fin false (suc n) (negℤ (pos (size (suc n) - 1)))) (e +ℤ pos (size (suc n) - 1))
 
 -- ---- "Power of b (0 or more, or NaN): 1 if p = 0; else exp(p·ln b)"; for other b the same formula
 
@@ -162,7 +162,7 @@ pub rootDigits : ℕ → ℕ → ℕ
 rootDigits zero n = 0
 rootDigits (suc d) n = let q = rootDigits d (n / 4) in cond (leb ((2 * q + 1) * (2 * q + 1)) n) (2 * q + 1) (2 * q)
 
--- the largest whole number whose square is at most n
+-- the largest whole number whose square is at most n (`whole-root`, proofs/RootWhole.antt, proves that it is)
 pub wholeRoot : ℕ → ℕ
 wholeRoot n = rootDigits (size n) n
 
@@ -181,7 +181,7 @@ rootOfUnits n =
     let c = droppedDigits x in
     odd (prec binary64) false (roundedRoot x c) c (low binary64)
 
--- the square root at binary64: a zero stays, with its sign, and below 0 it is NaN
+-- the square root at binary64: a zero stays, with its sign, and below 0 it is NaN. `square-root-nearest` proves that it is the nearest float.
 pub squareRoot : Float → Float
 squareRoot nan = nan
 squareRoot (inf s) = cond s nan (inf false)

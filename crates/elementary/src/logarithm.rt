@@ -3,7 +3,7 @@
 ghost use mathlib.Core.Path.{_≡_};
 ghost use Prim.Native.Nat.{_<_};
 ghost use lib.IntN.{pos, _-ℤ_};
-ghost use Rattle.elementary.specs.Elementary.{lnSum, lnAt, lnOf, ln, power};
+ghost use Rattle.elementary.specs.Elementary.{lnSum, lnNearOne, lnOfParts, ln, power};
 ghost use Rattle.elementary.specs.LnSteps.{lnOfPattern};
 use crate::exponential::exp;
 
@@ -21,8 +21,8 @@ fn ln_sum(z: f64) -> f64
 }
 
 // ln (m 2^e), for m near 1.
-fn ln_at(m: f64, e: f64) -> f64
-    ensures { λ x. ⌜ x ≡ lnAt m e ⌝ }
+fn ln_near_one(m: f64, e: f64) -> f64
+    ensures { λ x. ⌜ x ≡ lnNearOne m e ⌝ }
 {
     let g = (m - 1.0) / (m + 1.0);
     2.0 * g * ln_sum(g * g) + e * 1.9082149292705877e-10 + e * 0.6931471803691238
@@ -36,21 +36,21 @@ fn exponent(field: u16, bias: u16) -> i32
 }
 
 // ln (m 2^(field - bias)), for 1 ≤ m < 2.
-fn ln_of(m: f64, field: u16, bias: u16) -> f64
+fn ln_of_parts(m: f64, field: u16, bias: u16) -> f64
     requires { ⌜ field < 65535 ⌝ }
-    ensures { λ x. ⌜ x ≡ lnOf m (pos field -ℤ pos bias) ⌝ }
+    ensures { λ x. ⌜ x ≡ lnOfParts m (pos field -ℤ pos bias) ⌝ }
 {
     if m >= 1.4142135623730951 {
-        return ln_at(m * 0.5, exponent(field + 1, bias) as f64);
+        return ln_near_one(m * 0.5, exponent(field + 1, bias) as f64);
     }
-    ln_at(m, exponent(field, bias) as f64)
+    ln_near_one(m, exponent(field, bias) as f64)
 }
 
 // ln of the number with the pattern u, divided by 2^(bias - 1023).
 fn ln_of_pattern(u: u64, bias: u16) -> f64
     ensures { λ x. ⌜ x ≡ lnOfPattern u bias ⌝ }
 {
-    ln_of(
+    ln_of_parts(
         f64::from_bits(u % 4503599627370496 + 4607182418800017408),
         (u / 4503599627370496) as u16,
         bias,

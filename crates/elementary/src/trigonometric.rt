@@ -2,7 +2,7 @@
 
 ghost use mathlib.Core.Path.{_≡_};
 ghost use Prim.Native.Nat.{_≤_};
-ghost use Rattle.elementary.specs.Elementary.{quadrant, circleRest, circleSum, sine, cosine, sinIn, cosIn, sin, cos};
+ghost use Rattle.elementary.specs.Elementary.{quadrant, angleRest, trigSum, sine, cosine, sinIn, cosIn, sin, cos};
 use crate::near::near;
 
 // q modulo 4, from 0 to 3, also for negative q.
@@ -13,17 +13,17 @@ fn quadrant(q: i32) -> u32
 }
 
 // y less q quarter turns. The product with the high part is exact.
-fn circle_rest(y: f64, q: i32) -> f64
-    ensures { λ r. ⌜ r ≡ circleRest y q ⌝ }
+fn angle_rest(y: f64, q: i32) -> f64
+    ensures { λ r. ⌜ r ≡ angleRest y q ⌝ }
 {
     let f = q as f64;
     y - f * 1.5707963267341256 - f * 6.077100506506192e-11
 }
 
 // The series from the inside out: the cosine's for less = 1, for less = 0 the sine's over its argument.
-fn circle_sum(less: u32, z: f64) -> f64
+fn trig_sum(less: u32, z: f64) -> f64
     requires { ⌜ less ≤ 1 ⌝ }
-    ensures { λ r. ⌜ r ≡ circleSum less z ⌝ }
+    ensures { λ r. ⌜ r ≡ trigSum less z ⌝ }
 {
     let mut a = 1.0;
     let mut j: u32 = 10;
@@ -39,14 +39,14 @@ fn circle_sum(less: u32, z: f64) -> f64
 fn sine(r: f64) -> f64
     ensures { λ s. ⌜ s ≡ sine r ⌝ }
 {
-    r * circle_sum(0, r * r)
+    r * trig_sum(0, r * r)
 }
 
 // The cosine of a small r.
 fn cosine(r: f64) -> f64
     ensures { λ c. ⌜ c ≡ cosine r ⌝ }
 {
-    circle_sum(1, r * r)
+    trig_sum(1, r * r)
 }
 
 // The sine of r and `quadrant` quarter turns.
@@ -82,7 +82,7 @@ pub fn sin(y: f64) -> f64
     if y < 1073741824.0 {
         if y > -1073741824.0 {
             let q = near(y * 0.6366197723675814);
-            return sin_in(quadrant(q), circle_rest(y, q));
+            return sin_in(quadrant(q), angle_rest(y, q));
         }
         return 0.0 / 0.0;
     }
@@ -96,7 +96,7 @@ pub fn cos(y: f64) -> f64
     if y < 1073741824.0 {
         if y > -1073741824.0 {
             let q = near(y * 0.6366197723675814);
-            return cos_in(quadrant(q), circle_rest(y, q));
+            return cos_in(quadrant(q), angle_rest(y, q));
         }
         return 0.0 / 0.0;
     }

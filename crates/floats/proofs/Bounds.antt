@@ -1,21 +1,23 @@
 -- Bounds of a size go through the operations of binary64, where the ends are values that it holds: rounding does not cross them. Assumes nothing.
 use mathlib.Core.Path.{_≡_, refl, sym, _∙_, ap, subst}
-use Prim.Native.Nat.{ℕ, _+_, _-_, _*_, _/_, _^_, _≤_, _<_, suc, min}
-use mathlib.Core.Bool.{Bool, true, false, not, cond, _&&_, Bool·beq}
+use Prim.Native.Nat.{ℕ, _+_, _-_, _*_, _/_, _^_, _≤_, _<_, zero, suc, min}
+use mathlib.Core.Bool.{Bool, true, false, not, cond, _&&_, _||_, Bool·beq}
 use native.Mathlib.Nat.{le-refl, le-trans, le-antisymm, le-of-lt, le-of-suc-le-suc, lt-of-lt-of-le, div-lt-iff-lt-mul, le-div-iff-mul-le}
 use native.Mathlib.Nat.{mul-assoc, mul-pos, zero-mul, mul-le-mul-right, mul-lt-mul-of-pos-right, le-of-mul-le-mul-right, lt-of-mul-lt-mul-right}
 use native.Mathlib.Omega.{arith}
-use borrow.Author.Tests.{lt-ltb}
-use lib.Dec.{T, ltb, lit<}
+use borrow.Author.Tests.{lt-ltb, ne-eqb}
+use lib.Dec.{T, ltb, eqb, lit<}
 use lib.IntN.{pos, negℤ}
 use lib.Pow.{pow-add, pow-mono, pow-pos}
-use lib.Ieee.{Float, fin, binary64, size, round, sum, neg, add, sub, mul, odd, fits, unlike, toSigned}
+use lib.Ieee.{Float, fin, binary64, size, round, sum, neg, add, sub, mul, odd, le, fits, unlike, ofBits, toSigned}
 use lib.Ieee.Exact.{HasValue, odd-sign}
 use lib.Ieee.Fits.{odd-fits, round-fits}
 use lib.Ieee.Scale.{grid}
+use Rattle.floats.specs.Operations.{f0}
 use Rattle.floats.specs.Facts.{Between, signedInt}
 use Rattle.floats.proofs.Tests.{sub-mul}
-use Rattle.floats.proofs.Values.{rescale, neg-value, value-unique, toSigned-at}
+use Rattle.floats.proofs.Values.{rescale, neg-value, zero-value, value-unique, toSigned-at}
+use Rattle.floats.proofs.Comparison.{le-at}
 use Rattle.floats.proofs.Arithmetic.{add-at, sub-at, mul-at, sum-plus, sum-minus}
 use Rattle.floats.proofs.Rounding.{round-value, grid-le, grid-ge, grid-mono}
 use Rattle.floats.proofs.Monotone.{sumSign, sumSize, sum-round}
@@ -245,6 +247,27 @@ apart-between x y s l u m n l' u' j P L U J f g p q =
     kept : (s : Bool) (i i' : ℕ) → i' < i → (s && ltb i' i) ≡ s
     kept true i i' h = lt-ltb i' i h
     kept false i i' h = refl
+
+-- ---- the test against 0
+
+zero-over : (c : ℕ) → HasValue f0 false 0 c
+unfolding ofBits
+zero-over c = zero-value c
+
+pub above-zero : (x : Float) (l u d : ℕ) → Between x false l u d → le f0 x ≡ true
+above-zero x l u d b = le-at f0 x false 0 false (b .size) (b .over) (b .positive) (zero-over (b .over)) (b .value) ∙ go (b .size)
+  where
+    go : (a : ℕ) → (ltb 0 a || (eqb 0 a && true)) ≡ true
+    go zero = refl
+    go (suc a) = rw (lt-ltb 0 (suc a) (omega arith))
+
+pub below-zero : (x : Float) (l u d : ℕ) → 0 < l → Between x true l u d → le f0 x ≡ false
+below-zero x l u d L b =
+    le-at f0 x false 0 true (b .size) (b .over) (b .positive) (zero-over (b .over)) (b .value) ∙ go (b .size) (b .over) (b .positive) (b .least)
+  where
+    go : (a c : ℕ) → 0 < c → l * c ≤ a * d → (false || (eqb 0 a && (false || true))) ≡ false
+    go zero c C h = let k = mul-pos L C in absurd (omega arith)
+    go (suc a) c C h = rw (ne-eqb 0 (suc a) (λ e. omega arith))
 
 -- ---- cut towards zero: the size between h and h + 1
 

@@ -22,7 +22,8 @@ absolute-value nan s a c v = absurd v
 absolute-value (inf t) s a c v = absurd v
 absolute-value (fin t m e) s a c v = (refl, v .1)
 
--- At the edges, by computing: |−0| = 0; "signum of −0.0 is −1"; a cut to zero keeps the sign; "Casts to i32 saturate, NaN to 0"; a cut is towards zero.
+-- At the edges, by computing: |−0| = 0; "signum of −0.0 is −1"; a cut to zero keeps the sign; "Casts to i32 saturate, NaN to 0"; a cut is towards zero;
+-- minimum and maximum of 0 and 1, and the first of equal operands.
 pub edges :
     (absolute (neg f0) ≡ f0)
     × (signOf (neg f0) ≡ neg f1)
@@ -34,5 +35,9 @@ pub edges :
     × (toSigned 31 (inf false) ≡ pos 2147483647)
     × (toSigned 31 (inf true) ≡ negsuc 2147483647)
     × (toSigned 31 nan ≡ pos 0)
-unfolding absolute signOf truncated fraction neg ofBits round sub toSigned
-edges = (refl, refl, refl, refl, refl, refl, refl, refl, refl, refl)
+    × (lesser f1 f0 ≡ f0)
+    × (greater f0 f1 ≡ f1)
+    × (lesser f0 (neg f0) ≡ f0)
+    × (greater (neg f0) f0 ≡ neg f0)
+unfolding absolute signOf truncated fraction lesser greater isNan lt neg ofBits round sub toSigned
+edges = (refl, refl, refl, refl, refl, refl, refl, refl, refl, refl, refl, refl, refl, refl)

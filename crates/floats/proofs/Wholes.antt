@@ -131,7 +131,7 @@ whole-le f a b h k =
 
 -- ---- x * 1 and x + 0 are x, for a finite x that the format holds, not -0 in the sum
 
-unlike-plus : (s : Bool) → unlike s false ≡ s
+pub unlike-plus : (s : Bool) → unlike s false ≡ s
 unlike-plus true = refl
 unlike-plus false = refl
 

@@ -4,8 +4,8 @@ use mathlib.Core.Bool.{true, false}
 use mathlib.Core.List.{List, [], _∷_, map}
 use lib.Ieee.{Float, nan, inf, add, sub, mul, div, neg, lt, le, eq, ne, ofBits, ofInt, toSigned, size, span, climb}
 use Rattle.floats.specs.Operations.{bits, decimal, f0, f1}
-use Rattle.elementary.specs.Elementary.{near, downTo, expSum, scaled, exp, exp2, expM1, circleSum, sine, cosine, quadrant, sinIn, cosIn, sin, cos}
-use Rattle.elementary.specs.Elementary.{lnSum, lnOf, ln, power, rootDigits, wholeRoot, roundedRoot, droppedDigits, rootOfUnits, squareRoot}
+use Rattle.elementary.specs.Elementary.{near, downTo, expSum, scaled, exp, exp2, expM1, trigSum, sine, cosine, quadrant, sinIn, cosIn, sin, cos}
+use Rattle.elementary.specs.Elementary.{lnSum, lnOfParts, ln, power, rootDigits, wholeRoot, roundedRoot, droppedDigits, rootOfUnits, squareRoot}
 
 -- a function at an argument, and its value there
 abbrev pub examples : List (Float × Float)
@@ -124,7 +124,7 @@ abbrev pub values : List Float
 values = map (λ (e : Float × Float). e .1) examples
 
 pub examples-hold : computed ≡ values
-unfolding near downTo expSum scaled exp exp2 expM1 circleSum sine cosine quadrant sinIn cosIn sin cos lnSum lnOf ln power
+unfolding near downTo expSum scaled exp exp2 expM1 trigSum sine cosine quadrant sinIn cosIn sin cos lnSum lnOfParts ln power
     rootDigits wholeRoot roundedRoot droppedDigits rootOfUnits squareRoot
     add sub mul div neg lt le eq ne ofBits decimal ofInt toSigned size span climb
 examples-hold = refl

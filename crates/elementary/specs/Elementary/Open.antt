@@ -7,8 +7,8 @@ use lib.Signed.{quotZ}
 use lib.Ieee.{Float, nan, inf, fin, size, lt, le, eq, ne, neg, toSigned}
 use Rattle.floats.specs.Operations.{_⊕_, _⊖_, _⊗_, float, f0, f½, f1}
 use Rattle.elementary.specs.Constants.{log2e, ln2, expHighest, expLowest, exp2Highest, exp2Lowest, root2}
-use Rattle.elementary.specs.Elementary.{near, downTo, expTerm, expSum, powerOfTwo, scaled, expRest, exp, exp2, quarters, circleRest, circleTerm, circleSum}
-use Rattle.elementary.specs.Elementary.{sine, cosine, quadrant, byQuadrant, sinIn, cosIn, onCircle, sin, cos, lnTerm, lnSum, lnAt, lnOf, ln, power, expM1}
+use Rattle.elementary.specs.Elementary.{near, downTo, expTerm, expSum, powerOfTwo, scaled, expRest, exp, exp2, quarters, angleRest, trigTerm, trigSum}
+use Rattle.elementary.specs.Elementary.{sine, cosine, quadrant, byQuadrant, sinIn, cosIn, angleOrNan, sin, cos, lnTerm, lnSum, lnNearOne, lnOfParts, ln, power, expM1}
 
 pub near-is : (t : Float) → near t ≡ toSigned 31 (cond (le f0 t) (t ⊕ f½) (t ⊖ f½))
 unfolding near
@@ -56,15 +56,15 @@ expM1-is y = refl
 
 -- ---- sin, cos
 
-pub circleSum-is : (less : ℕ) (z : Float) → circleSum less z ≡ downTo (circleTerm less z) 1 9 f1
-unfolding circleSum
-circleSum-is less z = refl
+pub trigSum-is : (less : ℕ) (z : Float) → trigSum less z ≡ downTo (trigTerm less z) 1 9 f1
+unfolding trigSum
+trigSum-is less z = refl
 
-pub sine-is : (r : Float) → sine r ≡ r ⊗ circleSum 0 (r ⊗ r)
+pub sine-is : (r : Float) → sine r ≡ r ⊗ trigSum 0 (r ⊗ r)
 unfolding sine
 sine-is r = refl
 
-pub cosine-is : (r : Float) → cosine r ≡ circleSum 1 (r ⊗ r)
+pub cosine-is : (r : Float) → cosine r ≡ trigSum 1 (r ⊗ r)
 unfolding cosine
 cosine-is r = refl
 
@@ -84,11 +84,11 @@ pub cosIn-is : (q : ℕ) (r : Float) → cosIn q r ≡ byQuadrant q (cosine r) (
 unfolding cosIn
 cosIn-is q r = refl
 
-pub sin-is : (y : Float) → sin y ≡ onCircle y (sinIn (quadrant (quarters y)) (circleRest y (quarters y)))
+pub sin-is : (y : Float) → sin y ≡ angleOrNan y (sinIn (quadrant (quarters y)) (angleRest y (quarters y)))
 unfolding sin
 sin-is y = refl
 
-pub cos-is : (y : Float) → cos y ≡ onCircle y (cosIn (quadrant (quarters y)) (circleRest y (quarters y)))
+pub cos-is : (y : Float) → cos y ≡ angleOrNan y (cosIn (quadrant (quarters y)) (angleRest y (quarters y)))
 unfolding cos
 cos-is y = refl
 
@@ -98,9 +98,9 @@ pub lnSum-is : (z : Float) → lnSum z ≡ downTo (lnTerm z) 0 13 f0
 unfolding lnSum
 lnSum-is z = refl
 
-pub lnOf-is : (m : Float) (e : ℤ) → lnOf m e ≡ cond (le root2 m) (lnAt (m ⊗ f½) (float (e +ℤ pos 1))) (lnAt m (float e))
-unfolding lnOf
-lnOf-is m e = refl
+pub lnOfParts-is : (m : Float) (e : ℤ) → lnOfParts m e ≡ cond (le root2 m) (lnNearOne (m ⊗ f½) (float (e +ℤ pos 1))) (lnNearOne m (float e))
+unfolding lnOfParts
+lnOfParts-is m e = refl
 
 pub ln-nan : ln nan ≡ nan
 unfolding ln
@@ -118,7 +118,7 @@ pub ln-negative : (n : ℕ) (e : ℤ) → ln (fin true (suc n) e) ≡ nan
 unfolding ln
 ln-negative n e = refl
 
-pub ln-positive : (n : ℕ) (e : ℤ) → ln (fin false (suc n) e) ≡ lnOf (fin false (suc n) (negℤ (pos (size (suc n) - 1)))) (e +ℤ pos (size (suc n) - 1))
+pub ln-positive : (n : ℕ) (e : ℤ) → ln (fin false (suc n) e) ≡ lnOfParts (fin false (suc n) (negℤ (pos (size (suc n) - 1)))) (e +ℤ pos (size (suc n) - 1))
 unfolding ln
 ln-positive n e = refl
 

@@ -1,4 +1,5 @@
 -- `answers::answer::is_alike` meets its contract: the callees' results, in the order of the code.
+use mathlib.Core.Path.{_∙_}
 use Rattle.answers.specs.Answers.{held}
 use Rattle.answers.proofs.answer.is_alike.Statement.{statement}
 use Rattle.answers.proofs.answer.is_alike.Tie as tie
@@ -17,4 +18,5 @@ is-alike-spec =
     (λ c.
     let a = c .before .before in
     let n = a .before .before .before in
-    rw (← n .word .ensures, ← a .before .before .number .ensures, ← a .before .number2 .ensures, ← a .answer-of .ensures, ← c .before .number3 .ensures) (c .alike .ensures)))
+    c .alike .ensures
+    ∙ rw (a .answer-of .ensures, n .word .ensures, a .before .before .number .ensures, a .before .number2 .ensures, c .before .number3 .ensures)))

@@ -4,7 +4,7 @@ use mir.Syntax.{w32}
 use mir.ValLaws.{toZ-ofZ}
 use borrow.Author.Needs.{needs, sfits-of}
 use Rattle.elementary.specs.Elementary.Open.{exp-is}
-use Rattle.elementary.proofs.ExponentRange.{exp-exponent}
+use Rattle.elementary.proofs.NearRange.{exp-exponent}
 use Rattle.elementary.proofs.exponential.exp.Statement.{statement}
 use Rattle.elementary.proofs.exponential.exp.Tie as tie
 

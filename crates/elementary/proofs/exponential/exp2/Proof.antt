@@ -4,7 +4,7 @@ use mir.Syntax.{w32}
 use mir.ValLaws.{toZ-ofZ}
 use borrow.Author.Needs.{needs, sfits-of}
 use Rattle.elementary.specs.Elementary.Open.{exp2-is}
-use Rattle.elementary.proofs.ExponentRange.{exp2-exponent}
+use Rattle.elementary.proofs.NearRange.{exp2-exponent}
 use Rattle.elementary.proofs.exponential.exp2.Statement.{statement}
 use Rattle.elementary.proofs.exponential.exp2.Tie as tie
 

@@ -5,7 +5,7 @@ use lib.IntN.{pos, _-ℤ_}
 use lib.Signed.{quotZ}
 use borrow.Author.Needs.{needs}
 use Rattle.elementary.specs.Elementary.Open.{scaled-is}
-use Rattle.elementary.proofs.Integers.{half-fits, rest-fits, half-mag, rest-mag}
+use Rattle.elementary.proofs.Integers.{half-fits, rest-fits, half-exponent, rest-exponent}
 use Rattle.elementary.proofs.exponential.scaled.Statement.{statement}
 use Rattle.elementary.proofs.exponential.scaled.Tie as tie
 
@@ -16,7 +16,7 @@ scaled-spec =
     (λ c. search (half-fits, needs))
     (λ c κs.
     let k = c .args .k in
-    rw (toZ-ofZ w32 k (c .fits .k), toZ-ofZ w32 (quotZ k (pos 2)) (half-fits (c .fits .k))) (half-mag k (c .pre)))
+    rw (toZ-ofZ w32 k (c .fits .k), toZ-ofZ w32 (quotZ k (pos 2)) (half-fits (c .fits .k))) (half-exponent k (c .pre)))
     (λ c. search (half-fits, rest-fits, needs))
     (λ c κs.
     let k = c .before .args .k in
@@ -25,7 +25,7 @@ scaled-spec =
       toZ-ofZ w32 k fits,
       toZ-ofZ w32 (quotZ k (pos 2)) (half-fits fits),
       toZ-ofZ w32 (k -ℤ quotZ k (pos 2)) (rest-fits fits),
-    ) (rest-mag k (c .before .pre)))
+    ) (rest-exponent k (c .before .pre)))
     (λ c.
     let s = c .before .before in
     let k = s .args .k in

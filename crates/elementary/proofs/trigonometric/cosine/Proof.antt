@@ -9,4 +9,4 @@ cosine-spec =
     tie.close
     (tie.spec
     (λ c κs. search needs)
-    (λ c. rw (cosine-is (c .before .args .r), c .circle-sum .ensures)))
+    (λ c. rw (cosine-is (c .before .args .r), c .trig-sum .ensures)))

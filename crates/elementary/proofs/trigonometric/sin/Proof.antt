@@ -23,7 +23,7 @@ sin-spec =
       n .before .before .if1 .taken,
       n .before .if2 .taken,
       c .sin-in .ensures,
-      c .before .circle-rest .ensures,
+      c .before .angle-rest .ensures,
       c .before .before .quadrant .ensures,
       toZ-ofZ w32 (n .near .result) (sfits-of (n .near .ok)),
       n .near .ensures,

@@ -9,4 +9,4 @@ sine-spec =
     tie.close
     (tie.spec
     (λ c κs. search needs)
-    (λ c. rw (sine-is (c .before .args .r), c .circle-sum .ensures)))
+    (λ c. rw (sine-is (c .before .args .r), c .trig-sum .ensures)))

@@ -1,10 +1,11 @@
--- In exp and exp2 the exponent k is at most 1081 in size, so that binary64 has both powers of two that k is split into. Assumes nothing.
-use mathlib.Core.Path.{_≡_, refl, subst}
+-- The range of near. In exp and exp2 the exponent k is at most 1081 in size, so that binary64 has both powers of two that k is split into; in sin and cos the
+-- quarter turns are at most 2 ^ 30 + 1. So the cast to i32 never saturates. Assumes nothing.
+use mathlib.Core.Path.{_≡_, refl, sym, subst}
 use mathlib.Core.Bool.{Bool, true, false, cond, _||_}
 use Prim.Native.Nat.{ℕ, _+_, _-_, _*_, _/_, _^_, _≤_, _<_, min}
 use native.Mathlib.Nat.{mul-comm, div-le-of-le-mul}
 use native.Mathlib.Omega.{arith}
-use borrow.Author.Tests.{ltb-false}
+use borrow.Author.Tests.{ltb-true, ltb-false}
 use lib.Dec.{T, lit≤, lit<}
 use lib.IntN.{ℤ, pos, negℤ}
 use lib.Signed.{mag}
@@ -16,10 +17,10 @@ use Rattle.floats.specs.Facts.{Between}
 use Rattle.floats.proofs.Values.{neg-value, toSigned-at}
 use Rattle.floats.proofs.Arithmetic.{sub-is}
 use Rattle.floats.proofs.Bounds.{mul-between, any-between}
-use Rattle.elementary.specs.Constants.{log2e, expHighest, expLowest, exp2Highest, exp2Lowest}
-use Rattle.elementary.specs.Elementary.{near}
+use Rattle.elementary.specs.Constants.{log2e, expHighest, expLowest, exp2Highest, exp2Lowest, twoOverPi, angleEnd}
+use Rattle.elementary.specs.Elementary.{near, quarters}
 use Rattle.elementary.specs.Elementary.Open.{near-is}
-use Rattle.elementary.proofs.ConstantValues.{half-value, log2e-value}
+use Rattle.elementary.proofs.ConstantValues.{half-value, log2e-value, two-over-pi-value}
 use Rattle.elementary.proofs.Integers.{mag-neg}
 
 -- finite, and at most n in size
@@ -40,7 +41,7 @@ cut-at-most x n h (s, w) =
     go true k q = mag-neg (min k 2147483648) n (omega arith)
     go false k q = omega arith
 
-near-at-most : (x : Float) (n : ℕ) → n < 2 ^ 30 → AtMost x n → mag (near x) ≤ n + 1
+near-at-most : (x : Float) (n : ℕ) → n + 1 < 2 ^ 31 → AtMost x n → mag (near x) ≤ n + 1
 near-at-most x n h (s, w) = rw (near-is x) (go (le f0 x))
   where
     ends : (t : Bool) (y : Float) → HasValue y t 1 2 → AtMost (x ⊕ y) (n + 1)
@@ -89,3 +90,24 @@ exp2-kept (fin false m e) p q r =
 
 pub exp2-exponent : (y : Float) → ne y y ≡ false → le exp2Highest y ≡ false → lt y (neg exp2Lowest) ≡ false → mag (near y) ≤ 1081
 exp2-exponent y p q r = near-at-most y 1080 (lit< tt) (exp2-kept y p q r)
+
+-- ---- sin and cos
+
+angle-kept : (y : Float) → lt y angleEnd ≡ true → lt (neg angleEnd) y ≡ true → AtMost y (2 ^ 30)
+unfolding lt neg ofBits
+angle-kept nan p q = absurd (subst T (sym p) tt)
+angle-kept (inf true) p q = absurd (subst T (sym q) tt)
+angle-kept (inf false) p q = absurd (subst T (sym p) tt)
+angle-kept (fin true m e) p q = let k = ltb-true (m * up e * 1) (2 ^ 30 * down e) q in at-most true m e (2 ^ 30) (omega arith)
+angle-kept (fin false m e) p q = let k = ltb-true (m * up e * 1) (2 ^ 30 * down e) p in at-most false m e (2 ^ 30) (omega arith)
+
+pub quarters-range : (y : Float) → lt y angleEnd ≡ true → lt (neg angleEnd) y ≡ true → mag (quarters y) ≤ 2 ^ 30 + 1
+quarters-range y p q = go (angle-kept y p q)
+  where
+    go : AtMost y (2 ^ 30) → mag (quarters y) ≤ 2 ^ 30 + 1
+    go (s, w) =
+        near-at-most (y ⊗ twoOverPi) (2 ^ 30) (lit< tt) (
+          _,
+          mul-between y twoOverPi s false 0 (2 ^ 30) 1 5734161139222659 (2 ^ 53) 0 (2 ^ 30) 0 (lit< tt) (lit< tt) (lit< tt) (lit< tt) (lit≤ tt) w two-over-pi-value
+              (lit≤ tt) (lit≤ tt),
+        )

@@ -1,26 +1,26 @@
--- `elementary::trigonometric::circle_sum` meets its contract: what the loop still does to a is the rest of the countdown.
+-- `elementary::trigonometric::trig_sum` meets its contract: what the loop still does to a is the rest of the countdown.
 use mathlib.Core.Path.{_≡_, sym}
 use Prim.Native.Nat.{_+_, _-_, _*_, _≤_}
 use native.Mathlib.Omega.{arith}
 use borrow.Author.Needs.{needs}
-use Rattle.elementary.specs.Elementary.{downTo, circleTerm, circleSum}
-use Rattle.elementary.specs.Elementary.Open.{circleSum-is}
+use Rattle.elementary.specs.Elementary.{downTo, trigTerm, trigSum}
+use Rattle.elementary.specs.Elementary.Open.{trigSum-is}
 use Rattle.elementary.proofs.Countdown.{turns, ends}
 use Rattle.elementary.proofs.Integers.{small-product}
-use Rattle.elementary.proofs.trigonometric.circle_sum.Statement.{statement}
-use Rattle.elementary.proofs.trigonometric.circle_sum.Tie as tie
+use Rattle.elementary.proofs.trigonometric.trig_sum.Statement.{statement}
+use Rattle.elementary.proofs.trigonometric.trig_sum.Tie as tie
 
 abbrev Inv-loop : tie.InvT-loop
-Inv-loop less z a₀ j₀ a j = (j ≤ 10) × (downTo (circleTerm less z) 1 (j - 1) a ≡ circleSum less z)
+Inv-loop less z a₀ j₀ a j = (j ≤ 10) × (downTo (trigTerm less z) 1 (j - 1) a ≡ trigSum less z)
 
 abbrev μ-loop : tie.MeasureT-loop
 μ-loop less z a₀ j₀ a j = j
 
-pub circle-sum-spec : {M : Type 1} → statement M
-circle-sum-spec =
+pub trig-sum-spec : {M : Type 1} → statement M
+trig-sum-spec =
     tie.close
     (tie.spec Inv-loop μ-loop
-    (λ c. (search needs, sym (circleSum-is (c .args .less) (c .args .z))))
+    (λ c. (search needs, sym (trigSum-is (c .args .less) (c .args .z))))
     (λ c. search needs)
     (λ c. search needs)
     (λ c. search needs)

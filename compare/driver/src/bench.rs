@@ -1,34 +1,44 @@
 //! The benchmark: time for each call of the library's function and of its reference.
 
 use std::hint::black_box;
-use std::time::Instant;
+use std::time::{Duration, Instant};
 
 use crate::functions::{Function, Pair, Sides};
 use crate::inputs::{Draw, Input};
 
 const INPUTS: usize = 4096;
-const PASSES: usize = 64;
+/// A round takes at least about this long.
+const ROUND: Duration = Duration::from_millis(4);
 const ROUNDS: usize = 25;
 const SEED: u64 = 1;
 
-/// Prints the times of each function. Both sides are called through a pointer.
+/// Prints the times of each function, over many inputs and at its points.
 pub fn run<'a>(functions: impl Iterator<Item = &'a Function>) {
     println!("ns per call, best of {ROUNDS} rounds: library, Rust, ratio");
     for function in functions {
-        let inputs = ordinary_inputs(function);
-        let (library, reference) = match &function.sides {
-            Sides::Number(f) => best(&inputs, f, |f, x, _| f(x)),
-            Sides::NumberOfTwo(f) => best(&inputs, f, |f, x, y| f(x, y)),
-            Sides::Truth(f) => best(&inputs, f, |f, x, _| f(x)),
-            Sides::TruthOfTwo(f) => best(&inputs, f, |f, x, y| f(x, y)),
-            Sides::Whole(f) => best(&inputs, f, |f, x, _| f(x)),
-        };
-        let ratio = library / reference;
-        println!(
-            "{}: {library:.2}, {reference:.2}, {ratio:.2}",
-            function.name
-        );
+        let name = function.name;
+        print_times(name, function, &ordinary_inputs(function));
+        for &(x, y) in points(function) {
+            print_times(&format!("{name}({x}, {y})"), function, &[(x, y)]);
+        }
     }
+}
+
+/// Both sides are called through a pointer.
+fn print_times(name: &str, function: &Function, inputs: &[Input]) {
+    let (library, reference) = match &function.sides {
+        Sides::Number(f) => best(inputs, f, |f, x, _| f(x)),
+        Sides::NumberOfTwo(f) => best(inputs, f, |f, x, y| f(x, y)),
+        Sides::Truth(f) => best(inputs, f, |f, x, _| f(x)),
+        Sides::TruthOfTwo(f) => best(inputs, f, |f, x, y| f(x, y)),
+        Sides::Whole(f) => best(inputs, f, |f, x, _| f(x)),
+    };
+    let ratio = library / reference;
+    println!("{name}: {library:.2}, {reference:.2}, {ratio:.2}");
+}
+
+fn points(function: &Function) -> &'static [Input] {
+    function.own.map_or(&[], |own| own.points)
 }
 
 /// A function's own inputs for the times, else numbers below 1000, every fourth a whole one.
@@ -50,39 +60,80 @@ fn best<F: Copy, A>(
     pair: &Pair<F>,
     call: impl Fn(F, f64, f64) -> A,
 ) -> (f64, f64) {
-    let round = |function: F| {
+    let round = |function: F, passes: usize| {
         let function = black_box(function);
         let start = Instant::now();
-        for _ in 0..PASSES {
-            for &(x, y) in inputs {
+        for _ in 0..passes {
+            for &(x, y) in black_box(inputs) {
                 black_box(call(function, x, y));
             }
         }
-        start.elapsed().as_nanos() as f64 / (PASSES * inputs.len()) as f64
+        start.elapsed()
     };
+    let mut passes = 1;
+    while (0..3).any(|_| round(pair.reference, passes) < ROUND) {
+        passes *= 2;
+    }
+    let time =
+        |function| round(function, passes).as_nanos() as f64 / (passes * inputs.len()) as f64;
     let (mut library, mut reference) = (f64::INFINITY, f64::INFINITY);
     for _ in 0..ROUNDS {
-        library = library.min(round(pair.library));
-        reference = reference.min(round(pair.reference));
+        library = library.min(time(pair.library));
+        reference = reference.min(time(pair.reference));
     }
     (library, reference)
 }
 
 #[cfg(test)]
 mod tests {
-    use super::{INPUTS, ordinary_inputs};
-    use crate::elementary::FUNCTIONS;
+    use std::cell::Cell;
+
+    use super::{INPUTS, ROUNDS, best, ordinary_inputs, points};
+    use crate::functions::Pair;
+    use crate::{CRATES, start_sums};
 
     #[test]
     fn answers_at_the_inputs_are_finite_and_not_zero() {
-        for function in &FUNCTIONS {
+        let functions = CRATES.iter().flat_map(|(_, functions)| *functions);
+        for function in functions.filter(|function| function.own.is_some()) {
             let inputs = ordinary_inputs(function);
             assert_eq!(inputs.len(), INPUTS);
-            for (x, y) in inputs {
+            for (x, y) in inputs.into_iter().chain(points(function).iter().copied()) {
                 let answer = function.reference(x, y);
                 let ordinary = answer.is_finite() && answer != 0.0;
                 assert!(ordinary, "{} {x:?} {y:?}", function.name);
             }
         }
+    }
+
+    #[test]
+    fn known_points() {
+        let mut all = vec![];
+        for function in &start_sums::FUNCTIONS {
+            all.extend(points(function).iter().map(|&(x, y)| (function.name, x, y)));
+        }
+        let expected = [
+            ("dvsa", 2.0, 0.3),
+            ("dvsa", 4.0, 0.5),
+            ("dvsa", 1.0, -51.5),
+            ("dvla", -12.0, 4.25),
+            ("vvsa", 3.0, 0.25),
+        ];
+        assert_eq!(all, expected);
+    }
+
+    #[test]
+    fn the_sides_are_called_in_turn_at_the_input() {
+        let (turns, last) = (Cell::new(0), Cell::new('r'));
+        let pair = Pair {
+            library: 'l',
+            reference: 'r',
+        };
+        let times = best(&[(2.0, 0.3)], &pair, |side, x, y| {
+            assert_eq!((x, y), (2.0, 0.3));
+            turns.set(turns.get() + usize::from(last.replace(side) != side));
+        });
+        assert_eq!(turns.get(), 2 * ROUNDS);
+        assert!(times.0 > 0.0 && times.1 > 0.0);
     }
 }

@@ -95,3 +95,25 @@ impl Function {
         }
     }
 }
+
+#[cfg(test)]
+mod tests {
+    use crate::CRATES;
+
+    /// Enough for all edge inputs and many drawn ones.
+    const COUNT: usize = 300_000;
+
+    #[test]
+    fn the_seed_fixes_the_inputs_and_the_count_is_kept() {
+        for function in CRATES.iter().flat_map(|(_, functions)| *functions) {
+            let bits = |seed| -> Vec<(u64, u64)> {
+                let inputs = function.inputs(COUNT, seed);
+                inputs.map(|(x, y)| (x.to_bits(), y.to_bits())).collect()
+            };
+            let first = bits(1);
+            assert_eq!(first.len(), COUNT, "{}", function.name);
+            assert!(first == bits(1) && first != bits(2), "{}", function.name);
+            assert_eq!(function.inputs(7, 1).count(), 7, "{}", function.name);
+        }
+    }
+}

@@ -14,6 +14,8 @@ pub struct OwnInputs {
     pub ordinary: fn(&mut Draw) -> Input,
     /// Draws for the times.
     pub timed: fn(&mut Draw) -> Input,
+    /// Inputs that are timed one by one.
+    pub points: &'static [Input],
 }
 
 impl OwnInputs {
@@ -73,11 +75,46 @@ fn neighbours(edge: f64) -> [f64; 7] {
 }
 
 /// All pairs of the first `many` edge inputs.
-pub fn edge_pairs(many: usize) -> Vec<(f64, f64)> {
+pub fn edge_pairs(many: usize) -> Vec<Input> {
     let edges = edges();
     let edges = &edges[..many.min(edges.len())];
-    let pairs_of = |&x: &f64| edges.iter().map(move |&y| (x, y));
-    edges.iter().flat_map(pairs_of).collect()
+    pairs(edges, edges)
+}
+
+pub fn pairs(xs: &[f64], ys: &[f64]) -> Vec<Input> {
+    let pairs_of = |&x: &f64| ys.iter().map(move |&y| (x, y));
+    xs.iter().flat_map(pairs_of).collect()
+}
+
+/// The number and the floats on either side of it, nearest first, up to `distance` floats away.
+pub fn around(x: f64, distance: usize) -> Vec<f64> {
+    let mut numbers = vec![x];
+    let (mut up, mut down) = (x, x);
+    for _ in 0..distance {
+        (up, down) = (up.next_up(), down.next_down());
+        numbers.extend([up, down]);
+    }
+    numbers
+}
+
+/// Each number and the two floats on either side of it, as inputs of a function of one number.
+pub fn close_to(numbers: impl IntoIterator<Item = f64>) -> Vec<Input> {
+    let numbers = numbers.into_iter().flat_map(|x| around(x, 2));
+    numbers.map(|x| (x, 0.0)).collect()
+}
+
+/// The whole and half-whole numbers `from`/2 to `to`/2.
+pub fn halves(from: i32, to: i32) -> impl Iterator<Item = f64> {
+    (from..=to).map(|k| f64::from(k) * 0.5)
+}
+
+/// 2^k for −1074 ≤ k ≤ 1023.
+pub fn power_of_two(k: i32) -> f64 {
+    if k < -1022 {
+        f64::from_bits(1 << (k + 1074))
+    } else {
+        f64::from_bits(((k + 1023) as u64) << 52)
+    }
 }
 
 /// `count` inputs of a function of one number or of `two`: all edge inputs, then drawn ones. Those
@@ -146,6 +183,16 @@ impl Draw {
         (2.0 * unit - 1.0) * size
     }
 
+    /// At most `distance` away from a half-whole number of about this size.
+    pub fn half_whole(&mut self, size: f64, distance: f64) -> f64 {
+        self.uniform(size).trunc() + 0.5 + self.uniform(distance)
+    }
+
+    /// Below 1, with all exponents, of either sign.
+    pub fn tiny(&mut self) -> f64 {
+        self.uniform(1.0) * power_of_two(-(self.below(1074) as i32))
+    }
+
     /// A whole number of 1 to 63 bits, of either sign.
     fn whole(&mut self) -> f64 {
         let width = 1 + self.below(63);
@@ -202,7 +249,7 @@ impl Draw {
 
 #[cfg(test)]
 mod tests {
-    use super::{Draw, edges, inputs};
+    use super::{Draw, around, edges, inputs};
 
     #[test]
     fn the_seed_fixes_the_inputs() {
@@ -224,6 +271,20 @@ mod tests {
             9817491932198370423,
         ];
         assert_eq!(first, expected);
+    }
+
+    #[test]
+    fn neighbours_stand_nearest_first() {
+        let half = 0.5 * f64::EPSILON;
+        let expected = [
+            1.0,
+            1.0 + 2.0 * half,
+            1.0 - half,
+            1.0 + 4.0 * half,
+            1.0 - 2.0 * half,
+        ];
+        assert_eq!(around(1.0, 2), expected);
+        assert_eq!(around(-0.0, 1), [0.0, 5e-324, -5e-324]);
     }
 
     #[test]

@@ -7,6 +7,7 @@ mod entries;
 mod floats;
 mod functions;
 mod inputs;
+mod start_sums;
 mod store;
 
 use std::num::NonZeroUsize;
@@ -17,9 +18,10 @@ use comparing::Tally;
 use functions::Function;
 
 /// The library crates by name, with their functions.
-const CRATES: [(&str, &[Function]); 2] = [
+const CRATES: [(&str, &[Function]); 3] = [
     ("floats", &floats::FUNCTIONS),
     ("elementary", &elementary::FUNCTIONS),
+    ("start_sums", &start_sums::FUNCTIONS),
 ];
 
 const USAGE: &str = "\

@@ -98,7 +98,7 @@ mod tests {
     use crate::floats::FUNCTIONS;
     use crate::functions::Function;
     use crate::inputs::edges;
-    use crate::{CRATES, elementary};
+    use crate::{CRATES, elementary, start_sums};
 
     #[test]
     fn samples_are_spread() {
@@ -116,7 +116,8 @@ mod tests {
             assert_eq!(records.len(), RECORDS);
         }
         let all: Vec<u64> = edges().into_iter().map(f64::to_bits).collect();
-        for function in [&FUNCTIONS[0], &elementary::FUNCTIONS[0]] {
+        let of_one_number = [&elementary::FUNCTIONS[0], &start_sums::FUNCTIONS[0]];
+        for function in [&FUNCTIONS[0]].into_iter().chain(of_one_number) {
             let first: Vec<u64> = inputs(function)[..edges().len()]
                 .iter()
                 .map(|(x, _)| x.to_bits())
@@ -127,7 +128,7 @@ mod tests {
 
     #[test]
     fn all_limits_are_stored() {
-        for function in &elementary::FUNCTIONS {
+        for function in elementary::FUNCTIONS.iter().chain(&start_sums::FUNCTIONS) {
             let stored = records(function);
             let own = function.own.expect("it has inputs of its own");
             for (x, y) in (own.limits)() {
@@ -179,5 +180,31 @@ mod tests {
         has(6, [17, bits(-5.0), 0, 0x3fd2_2785_706b_4ada]);
         has(7, [18, bits(2.25), 0, bits(1.5)]);
         has(7, [18, bits(-1.0), 0, super::NAN]);
+    }
+
+    #[test]
+    fn known_records_of_start_sums() {
+        let has = |function, record| has(&start_sums::FUNCTIONS, function, record);
+        let bits = f64::to_bits;
+        let (zero, infinite, tiny) = (bits(0.0), bits(f64::INFINITY), 1);
+        has(0, [19, bits(5.0), 0, bits(24.0)]);
+        has(0, [19, bits(-3.0), 0, bits(1e300)]);
+        has(0, [19, bits(172.0), 0, infinite]);
+        has(0, [19, bits(10.5), 0, 0x4131_4ade_6392_25ca]);
+        has(0, [19, bits(-2.5), 0, 0xbfee_3ff8_12e3_2182]);
+        has(1, [20, zero, bits(1.0), zero]);
+        has(1, [20, zero, zero, bits(1.0)]);
+        has(1, [20, zero, bits(4294967299.0), infinite]);
+        has(1, [20, bits(1.25), bits(0.5), 0x3fe9_9b6b_1635_2fac]);
+        has(1, [20, bits(-5.8), bits(0.5), 0xc06e_3cb4_d054_4763]);
+        has(2, [21, bits(5.8), bits(0.5), 0x3f41_a1f2_3149_f13d]);
+        has(2, [21, bits(-7.5), bits(0.5), 0xc0e6_4b0a_4dc9_06b4]);
+        has(2, [21, zero, zero, super::NAN]);
+        has(3, [22, zero, bits(-2.0), zero]);
+        has(3, [22, bits(1.25), bits(-1.0), 0x3ff2_ddfd_9c44_33b4]);
+        has(3, [22, bits(-5.8), bits(-0.5), 0x3f0b_0e9c_bf3a_3577]);
+        has(4, [23, bits(5.8), bits(-1.0), 0x40ab_ffd0_0ecf_455c]);
+        has(4, [23, bits(-7.5), bits(-0.5), 0x3e85_7516_4d2e_50bb]);
+        has(4, [23, bits(-7.5), tiny, super::NAN]);
     }
 }

@@ -10,10 +10,11 @@ use Rattle.floats.specs.Operations.{bits}
 use Rattle.answers.specs.Words.{wordAt}
 use Rattle.answers.specs.Floats.{floatsAnswer}
 use Rattle.answers.specs.Elementary.{elementaryAnswer}
+use Rattle.answers.specs.StartSums.{startSumsAnswer}
 
--- function n at x and y: the numbers up to 10 are those of `floats`
+-- function n at x and y: the numbers up to 10 are those of `floats`, those up to 18 of `elementary`
 unfoldable pub answer : ℕ → Float → Float → Float
-answer n x y = cond (leb n 10) (floatsAnswer n x y) (elementaryAnswer n x y)
+answer n x y = cond (leb n 10) (floatsAnswer n x y) (cond (leb n 18) (elementaryAnswer n x y) (startSumsAnswer n x y))
 
 -- whether the function of a record answers what the record holds
 unfoldable pub held : List ℕ → Bool

@@ -1,4 +1,5 @@
 pub mod Words
 pub mod Floats
 pub mod Elementary
+pub mod StartSums
 pub mod Answers

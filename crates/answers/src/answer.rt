@@ -6,16 +6,19 @@ use crate::elementary_answer;
 use crate::floats_answer;
 use crate::record::number;
 use crate::record::word;
+use crate::start_sums_answer;
 
 // Function n at x and y.
 fn answer_of(n: u64, x: f64, y: f64) -> f64
     ensures { λ r. ⌜ r ≡ answer n x y ⌝ }
 {
     if n <= 10 {
-        floats_answer::answer_of(n, x, y)
-    } else {
-        elementary_answer::answer_of(n, x, y)
+        return floats_answer::answer_of(n, x, y);
     }
+    if n <= 18 {
+        return elementary_answer::answer_of(n, x, y);
+    }
+    start_sums_answer::answer_of(n, x, y)
 }
 
 // Whether the function of a record answers what the record holds.

@@ -4,6 +4,7 @@ mod answer;
 mod elementary_answer;
 mod floats_answer;
 mod record;
+mod start_sums_answer;
 
 ghost use mathlib.Core.Path.{_≡_};
 ghost use Prim.Native.Nat.{_+_, _/_};
@@ -92,4 +93,5 @@ fn report(path: &[u8], name: &[u8]) {
 fn main() {
     report(b"floats.bin", b"floats");
     report(b"elementary.bin", b"elementary");
+    report(b"start_sums.bin", b"start_sums");
 }

@@ -4,6 +4,7 @@ ghost use mathlib.Core.Path.{_≡_};
 ghost use lib.Ieee.{isNan, toSigned};
 ghost use Rattle.floats.specs.Functions.{alike, absolute, infinite, truncated, fraction, lesser, greater, signOf};
 ghost use Rattle.elementary.specs.Elementary.{exp, exp2, expM1, ln, power, sin, cos, squareRoot};
+ghost use Rattle.start_sums.specs.StartSums.{gamma2, dvsa, dvla, vvsa, vvla};
 
 #[no_mangle]
 pub extern "C" fn compared_abs(x: f64) -> f64
@@ -129,4 +130,39 @@ pub extern "C" fn compared_square_root(x: f64) -> f64
     ensures { λ r. ⌜ r ≡ squareRoot x ⌝ }
 {
     elementary::square_root(x)
+}
+
+#[no_mangle]
+pub extern "C" fn compared_gamma2(x: f64) -> f64
+    ensures { λ r. ⌜ r ≡ gamma2 x ⌝ }
+{
+    start_sums::gamma2(x)
+}
+
+#[no_mangle]
+pub extern "C" fn compared_dvsa(x: f64, va: f64) -> f64
+    ensures { λ r. ⌜ r ≡ dvsa x va ⌝ }
+{
+    start_sums::dvsa(x, va)
+}
+
+#[no_mangle]
+pub extern "C" fn compared_dvla(x: f64, va: f64) -> f64
+    ensures { λ r. ⌜ r ≡ dvla x va ⌝ }
+{
+    start_sums::dvla(x, va)
+}
+
+#[no_mangle]
+pub extern "C" fn compared_vvsa(x: f64, va: f64) -> f64
+    ensures { λ r. ⌜ r ≡ vvsa x va ⌝ }
+{
+    start_sums::vvsa(x, va)
+}
+
+#[no_mangle]
+pub extern "C" fn compared_vvla(x: f64, va: f64) -> f64
+    ensures { λ r. ⌜ r ≡ vvla x va ⌝ }
+{
+    start_sums::vvla(x, va)
 }

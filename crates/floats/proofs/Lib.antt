@@ -10,4 +10,5 @@ pub mod Signs
 pub mod Cuts
 pub mod Truncation
 pub mod Bounds
+pub mod Loops
 pub mod Edges

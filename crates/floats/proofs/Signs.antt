@@ -4,15 +4,15 @@ use Prim.Native.Nat.{ℕ, _+_, _*_, _%_, _<_, _≤_}
 use native.Mathlib.Nat.{mod-eq-of-lt, add-mod-left}
 use native.Mathlib.Omega.{arith}
 use mathlib.Core.Bool.{Bool, true, false, not, _&&_, cond}
-use borrow.Author.Tests.{eq-eqb, eqb-true}
+use borrow.Author.Tests.{eq-eqb, eqb-true, le-ltb, ltb-true}
 use lib.Dec.{T, eqb}
 use lib.IntN.{ℤ}
-use lib.Ieee.{Float, nan, inf, fin, binary64, up, down, neg, eq, ne, fits, isNan, nanBits, ofBits, toBits}
+use lib.Ieee.{Float, nan, inf, fin, binary64, up, down, neg, lt, eq, ne, fits, isNan, nanBits, ofBits, toBits}
 use lib.Ieee.Bits.{ofBits-toBits, toBits-lt, nanBits-is}
 use lib.Ieee.Compare.{differs-from-itself}
 use lib.Ieee.Fits.{neg-fits}
 use Rattle.floats.specs.Functions.{alike, absolute, infinite, signOf}
-use Rattle.floats.specs.Operations.{bits, f1}
+use Rattle.floats.specs.Operations.{bits, f0, f1}
 
 -- ---- NaN and the infinities
 
@@ -128,3 +128,13 @@ sign-minus (inf true) p t h = refl
 sign-minus (inf false) p t h = absurd (omega arith)
 sign-minus (fin true m e) p t h = refl
 sign-minus (fin false m e) p t h = let k = toBits-lt binary64 (fin true m e) (neg-fits binary64 (fin false m e) t) in absurd (omega arith)
+
+-- ---- the negation of a negative float is not negative
+
+pub negated-not-below : (x : Float) → lt x f0 ≡ true → lt (neg x) f0 ≡ false
+unfolding lt neg ofBits
+negated-not-below nan h = refl
+negated-not-below (inf true) h = refl
+negated-not-below (inf false) h = sym h
+negated-not-below (fin true m e) h = le-ltb (m * up e * 1) (0 * down e) (omega arith)
+negated-not-below (fin false m e) h = let l : m * up e * 1 < 0 * down e = ltb-true _ _ h in absurd (omega arith)

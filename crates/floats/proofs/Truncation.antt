@@ -181,10 +181,15 @@ whole-itself s m e w p h =
     sym (round-back binary64 (fin s m e) s w 1 one p (refl, mul-one (m * up e) ∙ h))
     ∙ ap (λ (z : ℕ). round binary64 s z 1) (sym (ap (λ (z : ℕ). z / down e) h ∙ mul-div-cancel w (down-pos e)))
 
+pub whole-truncated : (x : Float) (s : Bool) (w : ℕ) → T (fits binary64 x) → HasValue x s w 1 → x ≡ truncated x
+whole-truncated nan s w p v = absurd v
+whole-truncated (inf t) s w p v = absurd v
+whole-truncated (fin t m e) s w p v = whole-itself t m e w p (sym (mul-one (m * up e)) ∙ v .1)
+
 large-itself : (s : Bool) (m : ℕ) (e : ℤ) → T (fits binary64 (fin s m e)) → 2 ^ 52 * down e ≤ m * up e → fin s m e ≡ truncated (fin s m e)
 large-itself s m e p h =
     let w = large-whole binary64 (fin s m e) s (m * up e) (down e) 52 refl (down-pos e) p (own-value s m e) h in
-    whole-itself s m e (w .0) p (sym (mul-one (m * up e)) ∙ w .1 .1)
+    whole-truncated (fin s m e) s (w .0) p (w .1)
 
 -- a test of y = a / c, with either sign, against ±2 ^ 52 and against 0
 limit-below : (m : ℕ) (e : ℤ) → lt (fin true 1 (pos 52)) (fin true m e) ≡ ltb (m * up e) (2 ^ 52 * down e)

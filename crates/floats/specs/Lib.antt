@@ -1,3 +1,4 @@
 pub mod Operations
 pub mod Functions
+pub mod Loops
 pub mod Facts

@@ -2,7 +2,7 @@
 
 use std::f64::consts::{FRAC_1_SQRT_2, FRAC_PI_2, FRAC_PI_4, LN_2, PI, SQRT_2};
 
-use crate::inputs::{Draw, Input, OwnInputs};
+use crate::inputs::{Draw, Input, OwnInputs, close_to, halves, pairs, power_of_two};
 
 /// 2^30, from which on `sin` and `cos` answer NaN.
 const ANGLE_LIMIT: f64 = 1073741824.0;
@@ -26,10 +26,11 @@ pub const EXP: OwnInputs = OwnInputs {
     limits: || close_to(EXP_LIMITS),
     edges: || close_to(halves(-2152, 2050).map(|half| half * LN_2)),
     ordinary: |draw| match draw.below(5) {
-        0 => (half_whole(draw, 1024.0, 0.01) * LN_2, 0.0),
+        0 => (draw.half_whole(1024.0, 0.01) * LN_2, 0.0),
         i => (draw.uniform([750.0, 40.0, 1.0, 1e-8][i - 1]), 0.0),
     },
     timed: |draw| (draw.uniform(700.0), 0.0),
+    points: &[],
 };
 
 pub const EXP_M1: OwnInputs = OwnInputs {
@@ -41,10 +42,11 @@ pub const EXP2: OwnInputs = OwnInputs {
     limits: || close_to([1024.0, -1080.0, -1075.0, -1074.0, -1022.0, 0.5, -0.5, 0.0]),
     edges: || close_to(halves(-2160, 2048)),
     ordinary: |draw| match draw.below(5) {
-        0 => (half_whole(draw, 1024.0, 0.01), 0.0),
+        0 => (draw.half_whole(1024.0, 0.01), 0.0),
         i => (draw.uniform([1100.0, 1100.0, 40.0, 1.0][i - 1]), 0.0),
     },
     timed: |draw| (draw.uniform(1000.0), 0.0),
+    points: &[],
 };
 
 /// Of `sin` and `cos`.
@@ -57,6 +59,7 @@ pub const ANGLES: OwnInputs = OwnInputs {
     edges: || close_to((-8200..=8200).map(|k| f64::from(k) * FRAC_PI_4)),
     ordinary: angle,
     timed: |draw| (draw.uniform(1000.0), 0.0),
+    points: &[],
 };
 
 fn angle(draw: &mut Draw) -> Input {
@@ -68,7 +71,7 @@ fn angle(draw: &mut Draw) -> Input {
             let multiple = draw.uniform(1.4e9).trunc() * FRAC_PI_4;
             draw.close(multiple)
         }
-        _ => draw.uniform(1.0) * power_of_two(-(draw.below(1074) as i32)),
+        _ => draw.tiny(),
     };
     (y, 0.0)
 }
@@ -89,6 +92,7 @@ pub const POSITIVE: OwnInputs = OwnInputs {
     },
     ordinary: positive,
     timed: |draw| (draw.uniform(1000.0).abs(), 0.0),
+    points: &[],
 };
 
 fn positive(draw: &mut Draw) -> Input {
@@ -143,6 +147,7 @@ pub const POW: OwnInputs = OwnInputs {
     edges: pow_edges,
     ordinary: base_and_power,
     timed: |draw| (draw.uniform(100.0).abs(), draw.uniform(10.0)),
+    points: &[],
 };
 
 /// Half-whole powers, and powers at which the answer is at the limits of `exp`.
@@ -166,41 +171,7 @@ fn base_and_power(draw: &mut Draw) -> Input {
             let base = stand_ins::exp(draw.uniform(23.0));
             (base, draw.uniform(745.0) / stand_ins::ln(base))
         }
-        5..7 => (draw.uniform(100.0).abs(), half_whole(draw, 20.0, 0.0)),
+        5..7 => (draw.uniform(100.0).abs(), draw.half_whole(20.0, 0.0)),
         _ => (1.0 + draw.uniform(0.01), draw.uniform(1e4)),
-    }
-}
-
-/// The whole and half-whole numbers `from`/2 to `to`/2.
-fn halves(from: i32, to: i32) -> impl Iterator<Item = f64> {
-    (from..=to).map(|k| f64::from(k) * 0.5)
-}
-
-/// At most `distance` away from a half-whole number of about this size.
-fn half_whole(draw: &mut Draw, size: f64, distance: f64) -> f64 {
-    draw.uniform(size).trunc() + 0.5 + draw.uniform(distance)
-}
-
-/// Each number and the two floats on either side of it.
-fn close_to(numbers: impl IntoIterator<Item = f64>) -> Vec<Input> {
-    let close = |x: f64| {
-        let (up, down) = (x.next_up(), x.next_down());
-        [x, up, down, up.next_up(), down.next_down()]
-    };
-    let numbers = numbers.into_iter().flat_map(close);
-    numbers.map(|x| (x, 0.0)).collect()
-}
-
-fn pairs(xs: &[f64], ys: &[f64]) -> Vec<Input> {
-    let pairs_of = |&x: &f64| ys.iter().map(move |&y| (x, y));
-    xs.iter().flat_map(pairs_of).collect()
-}
-
-/// 2^k for −1074 ≤ k ≤ 1023.
-fn power_of_two(k: i32) -> f64 {
-    if k < -1022 {
-        f64::from_bits(1 << (k + 1074))
-    } else {
-        f64::from_bits(((k + 1023) as u64) << 52)
     }
 }

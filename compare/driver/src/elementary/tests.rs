@@ -39,20 +39,6 @@ fn numbers_and_names() {
 }
 
 #[test]
-fn the_seed_fixes_the_inputs_and_the_count_is_kept() {
-    for function in &FUNCTIONS {
-        let bits = |seed| -> Vec<(u64, u64)> {
-            let inputs = function.inputs(COUNT, seed);
-            inputs.map(|(x, y)| (x.to_bits(), y.to_bits())).collect()
-        };
-        let first = bits(1);
-        assert_eq!(first.len(), COUNT, "{}", function.name);
-        assert!(first == bits(1) && first != bits(2), "{}", function.name);
-        assert_eq!(function.inputs(7, 1).count(), 7, "{}", function.name);
-    }
-}
-
-#[test]
 fn given_edges_are_among_the_inputs() {
     let rows: [(&str, &[f64]); 7] = [
         (

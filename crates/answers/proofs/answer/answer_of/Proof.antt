@@ -10,6 +10,12 @@ answer-of-spec =
     tie.close
     (tie.spec
     (λ c κs. tt)
-    (λ c κs. tt)
     (λ c. rw (le-leb (c .before .before .args .n) 10 (c .before .if1 .taken)) (c .answer-of .ensures))
-    (λ c. rw (lt-leb (c .before .before .args .n) 10 (c .before .if1 .left)) (c .answer-of2 .ensures)))
+    (λ c κs. tt)
+    (λ c.
+    let n = c .before .before .before .args .n in
+    rw (lt-leb n 10 (c .before .before .if1 .left), le-leb n 18 (c .before .if2 .taken)) (c .answer-of2 .ensures))
+    (λ c κs. tt)
+    (λ c.
+    let n = c .before .before .before .args .n in
+    rw (lt-leb n 10 (c .before .before .if1 .left), lt-leb n 18 (c .before .if2 .left)) (c .answer-of3 .ensures)))

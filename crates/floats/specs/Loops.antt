@@ -1,0 +1,13 @@
+-- A loop of the source that counts up and may be left early, `for k in first..=last { ..; if test { break; } }`, as a recursion on the turns that are left.
+use Prim.Native.Nat.{ℕ, zero, suc, _+_}
+use mathlib.Core.Bool.{Bool, true, false}
+
+-- what a turn leaves: whether the loop stops, and the numbers that it carries
+abbrev pub Turn : Type 0 → Type 0
+Turn S = Bool × S
+
+-- at most n turns, the first with k, the next with k + 1, and so on
+unfoldable pub countUp : {S : Type 0} → (ℕ → S → Turn S) → ℕ → ℕ → Turn S → S
+countUp turn zero k (b, s) = s
+countUp turn (suc n) k (true, s) = s
+countUp turn (suc n) k (false, s) = countUp turn n (k + 1) (turn k s)

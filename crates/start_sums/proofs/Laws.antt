@@ -1,0 +1,57 @@
+-- What the crates above may know of gamma2 and the start sums beside their contracts. Assumes nothing.
+use mathlib.Core.Path.{_≡_, refl, ap, _∙_}
+use mathlib.Core.Bool.{true, false}
+use mathlib.Core.List.{List}
+use Prim.Native.Nat.{ℕ}
+use lib.IntN.{pos}
+use lib.Dec.{lit≤}
+use lib.ListN.{getD}
+use lib.Ieee.{Float, nan, add, sub, mul, div, neg, lt, eq, ofBits, ofInt, toSigned}
+use Rattle.floats.specs.Operations.{_⊗_, _⊘_, bits, decimal, f0, f1}
+use Rattle.floats.specs.Functions.{absolute, infinite, truncated, fraction}
+use Rattle.floats.specs.Loops.{countUp}
+use Rattle.elementary.specs.Elementary.{sin}
+use Rattle.elementary.specs.QuarterTurns.{pi}
+use Rattle.elementary.proofs.Laws.{exp-minus-zero}
+use Rattle.elementary.proofs.QuarterTurns.{quarter-turns}
+use Rattle.start_sums.specs.Constants.{poleValue}
+use Rattle.start_sums.specs.StartSums.{productTurn, falling, polynomial, reciprocalSeries, gammaNear, gammaAbove, gamma2, dvsa, vvsa}
+use Rattle.start_sums.specs.StartSums.Open.{gamma2-below, dvsa-order-zero}
+use Rattle.start_sums.specs.StartSums.Examples.{computed, values, examples-hold}
+
+-- ---- values from the list of examples, by their place in it
+
+value : (n : ℕ) → getD computed n nan ≡ getD values n nan
+value n = ap (λ (l : List Float). getD l n nan) examples-hold
+
+-- P2
+pub gamma2-five : gamma2 (decimal 5 0) ≡ decimal 24 0
+gamma2-five = value 0
+
+-- P3
+pub gamma2-minus-three : gamma2 (neg (decimal 3 0)) ≡ poleValue
+gamma2-minus-three = value 5
+
+-- P4
+pub dvsa-zero-one : dvsa f0 f1 ≡ f0
+dvsa-zero-one = value 18
+
+pub vvsa-zero-zero : vvsa f0 f0 ≡ f0
+vvsa-zero-zero = value 21
+
+-- ---- values with an elementary function in them
+
+-- P4
+pub dvsa-zero-zero : dvsa f0 f0 ≡ f1
+unfolding eq mul neg ofBits
+dvsa-zero-zero = dvsa-order-zero f0 f0 refl ∙ exp-minus-zero
+
+-- a reflection: at −1.5 the sine is 1
+abbrev below : Float
+below = neg (decimal 15 1)
+
+pub gamma2-reflected : gamma2 below ≡ bits 0x4002_e7fb_0bcd_f4f2
+unfolding productTurn falling polynomial reciprocalSeries gammaNear gammaAbove absolute infinite truncated fraction countUp
+    add sub mul div neg lt eq ofBits decimal ofInt toSigned
+gamma2-reflected =
+    gamma2-below below refl refl refl ∙ ap (λ (s : Float). neg pi ⊘ (below ⊗ gammaAbove (absolute below) ⊗ s)) (quarter-turns (pos 1) (lit≤ tt))

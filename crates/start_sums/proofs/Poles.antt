@@ -1,0 +1,51 @@
+-- Where gamma2 answers 1e300 and dvsa 0, for every pole of Γ that the test meets (01, "Bottom rungs"). Assumes nothing.
+use mathlib.Core.Path.{_≡_, refl, sym, ap, _∙_, subst}
+use mathlib.Core.Bool.{Bool, true, false, not, _&&_, _||_}
+use Prim.Native.Nat.{ℕ, zero, suc, _+_, _/_, _^_, _≤_, min}
+use native.Mathlib.Nat.{min-eq-left, div-one}
+use native.Mathlib.Omega.{arith}
+use lib.Dec.{lit≤}
+use lib.IntN.{ℤ, pos, negℤ}
+use lib.Ieee.{Float, binary64, lt, le, eq, neg, fits, ofBits, toSigned}
+use lib.Ieee.Exact.{HasValue}
+use lib.Ieee.Fits.{neg-fits, ofInt-fits}
+use borrow.Author.Tests.{eq-eqb, lt-ltb}
+use Rattle.floats.specs.Operations.{_⊖_, _⊗_, float, whole, f0, f½, f1}
+use Rattle.floats.specs.Functions.{truncated}
+use Rattle.floats.proofs.Tests.{one}
+use Rattle.floats.proofs.Values.{zero-value, neg-value, ofInt-pos, ofInt-value, toSigned-at}
+use Rattle.floats.proofs.Comparison.{lt-at, eq-at, le-at}
+use Rattle.floats.proofs.Truncation.{whole-truncated}
+use Rattle.start_sums.specs.Constants.{poleValue}
+use Rattle.start_sums.specs.StartSums.{gamma2, isPole, dvsa, dvsaAtZero}
+use Rattle.start_sums.specs.StartSums.Open.{gamma2-pole, dvsa-at-zero}
+
+-- gamma2 is 1e300 at 0, −1, −2, …
+pub gamma2-poles : (n : ℕ) → n ≤ 2 ^ 53 → gamma2 (neg (whole n)) ≡ poleValue
+unfolding ofBits
+gamma2-poles n h =
+    let x = neg (whole n) in
+    let v : HasValue x true n 1 = neg-value (whole n) false n 1 (ofInt-pos binary64 n h) in
+    let same : eq x x ≡ true = eq-at x x true n true n 1 one v v ∙ ap (λ (b : Bool). b && true) (eq-eqb n n refl) in
+    gamma2-pole x
+    (subst (λ (y : Float). eq x y ≡ true) (whole-truncated x true n (neg-fits binary64 (whole n) (ofInt-fits binary64 (pos n))) v) same)
+    (lt-at f0 x false 0 true n 1 one (zero-value 1) v)
+
+-- an integer of i32's range is what its float is cast to
+cast-back : (y : Float) (n : ℕ) → n ≤ 2 ^ 31 → HasValue y true n 1 → toSigned 31 y ≡ negℤ (pos n)
+cast-back y n h v = toSigned-at 31 y true n 1 one v ∙ ap (λ (k : ℕ). negℤ (pos k)) (ap (λ (k : ℕ). min k (2 ^ 31)) (div-one n) ∙ min-eq-left h)
+
+-- the source's test finds every whole number from −2^31 to 0
+pub pole-found : (y : Float) (n : ℕ) → n ≤ 2 ^ 31 → HasValue y true n 1 → isPole y ≡ true
+unfolding isPole ofBits
+pole-found y zero h v =
+    rw (le-at y f0 true 0 false 0 1 one v (zero-value 1), cast-back y 0 h v) (eq-at y (whole 0) true 0 false 0 1 one v (ofInt-pos binary64 0 (lit≤ tt)))
+pole-found y (suc k) h v =
+    let p : suc k ≤ 2 ^ 53 = omega arith in
+    rw (le-at y f0 true (suc k) false 0 1 one v (zero-value 1), lt-ltb 0 (suc k + 0) (omega arith), cast-back y (suc k) h v)
+    (eq-at y (float (negℤ (pos (suc k)))) true (suc k) true (suc k) 1 one v (ofInt-value binary64 true (suc k) (omega arith) p) ∙ ap (λ (b : Bool). b && true) (eq-eqb (suc k) (suc k) refl))
+
+-- dvsa(0, va) is 0 where 0.5·(1 − va) is a negative whole number from −2^31 on; at va = 1, where it is 0, see `dvsa-zero-one`
+pub dvsa-poles : (va : Float) (n : ℕ) → n ≤ 2 ^ 31 → HasValue (f½ ⊗ (f1 ⊖ va)) true n 1 → eq va f0 ≡ false → dvsa f0 va ≡ f0
+unfolding dvsaAtZero eq ofBits
+dvsa-poles va n h v o = dvsa-at-zero f0 va o refl ∙ rw (pole-found (f½ ⊗ (f1 ⊖ va)) n h v)

@@ -1,6 +1,5 @@
 -- What the crates above may know of gamma2 and the start sums beside their contracts. Assumes nothing.
 use mathlib.Core.Path.{_≡_, refl, ap, _∙_}
-use mathlib.Core.Bool.{true, false}
 use mathlib.Core.List.{List}
 use Prim.Native.Nat.{ℕ}
 use lib.IntN.{pos}
@@ -10,7 +9,6 @@ use lib.Ieee.{Float, nan, add, sub, mul, div, neg, lt, eq, ofBits, ofInt, toSign
 use Rattle.floats.specs.Operations.{_⊗_, _⊘_, bits, decimal, f0, f1}
 use Rattle.floats.specs.Functions.{absolute, infinite, truncated, fraction}
 use Rattle.floats.specs.Loops.{countUp}
-use Rattle.elementary.specs.Elementary.{sin}
 use Rattle.elementary.specs.QuarterTurns.{pi}
 use Rattle.elementary.proofs.Laws.{exp-minus-zero}
 use Rattle.elementary.proofs.QuarterTurns.{quarter-turns}

@@ -1,21 +1,24 @@
 -- Where gamma2 answers 1e300 and dvsa 0, for every pole of Γ that the test meets (01, "Bottom rungs"). Assumes nothing.
-use mathlib.Core.Path.{_≡_, refl, sym, ap, _∙_, subst}
-use mathlib.Core.Bool.{Bool, true, false, not, _&&_, _||_}
-use Prim.Native.Nat.{ℕ, zero, suc, _+_, _/_, _^_, _≤_, min}
+use mathlib.Core.Path.{_≡_, refl, ap, _∙_, subst}
+use mathlib.Core.Bool.{Bool, true, false, _&&_, cond}
+use mathlib.Core.Logic.{_⊎_, inl, inr}
+use Prim.Native.Nat.{ℕ, zero, suc, _+_, _%_, _^_, _≤_, min}
 use native.Mathlib.Nat.{min-eq-left, div-one}
 use native.Mathlib.Omega.{arith}
-use lib.Dec.{lit≤}
-use lib.IntN.{ℤ, pos, negℤ}
-use lib.Ieee.{Float, binary64, lt, le, eq, neg, fits, ofBits, toSigned}
+use lib.Dec.{eqb, lit≤}
+use lib.IntN.{ℤ, pos, negℤ, natAbs}
+use lib.Ieee.{Float, binary64, add, mul, eq, neg, ofBits, toSigned}
 use lib.Ieee.Exact.{HasValue}
 use lib.Ieee.Fits.{neg-fits, ofInt-fits}
 use borrow.Author.Tests.{eq-eqb, lt-ltb}
-use Rattle.floats.specs.Operations.{_⊖_, _⊗_, float, whole, f0, f½, f1}
-use Rattle.floats.specs.Functions.{truncated}
-use Rattle.floats.proofs.Tests.{one}
+use Rattle.floats.specs.Operations.{_⊕_, _⊖_, _⊗_, float, whole, f0, f½, f1}
+use Rattle.floats.proofs.Tests.{one, lt-or-ge}
 use Rattle.floats.proofs.Values.{zero-value, neg-value, ofInt-pos, ofInt-value, toSigned-at}
 use Rattle.floats.proofs.Comparison.{lt-at, eq-at, le-at}
 use Rattle.floats.proofs.Truncation.{whole-truncated}
+use Rattle.elementary.specs.Constants.{f2}
+use Rattle.elementary.specs.QuarterTurns.{orderSine}
+use Rattle.elementary.proofs.QuarterTurns.{quarter-turns}
 use Rattle.start_sums.specs.Constants.{poleValue}
 use Rattle.start_sums.specs.StartSums.{gamma2, isPole, dvsa, dvsaAtZero}
 use Rattle.start_sums.specs.StartSums.Open.{gamma2-pole, dvsa-at-zero}
@@ -49,3 +52,20 @@ pole-found y (suc k) h v =
 pub dvsa-poles : (va : Float) (n : ℕ) → n ≤ 2 ^ 31 → HasValue (f½ ⊗ (f1 ⊖ va)) true n 1 → eq va f0 ≡ false → dvsa f0 va ≡ f0
 unfolding dvsaAtZero eq ofBits
 dvsa-poles va n h v o = dvsa-at-zero f0 va o refl ∙ rw (pole-found (f½ ⊗ (f1 ⊖ va)) n h v)
+
+-- fac of term m in vvsa: 1 and −1 in turn
+abbrev pub facOf : ℕ → Float
+facOf m = cond (eqb (m % 2) 0) f1 (neg f1)
+
+even-or-odd : (m : ℕ) → (m % 2 ≡ 0) ⊎ (m % 2 ≡ 1)
+even-or-odd m = elim (lt-or-ge (m % 2) 1) [ inl h ↦ inl (omega arith) | inr h ↦ inr (omega arith) ]
+
+-- 01's slip: at a whole order the weight of a term is exactly 0 or 2, and 0 wherever Γ((m − va)/2) may be at a pole, which keeps 1e300 out of V
+pub whole-order-weight : (va : ℤ) (m : ℕ) → natAbs va ≤ 1002 → facOf m ⊗ orderSine (float va) ⊕ f1 ≡ cond (eqb (m % 2) (natAbs va % 2)) f0 f2
+unfolding add mul neg ofBits
+whole-order-weight va m h =
+    rw (quarter-turns va h)
+    (elim (even-or-odd m) [
+      | inl a ↦ elim (even-or-odd (natAbs va)) [ inl b ↦ rw (a, b) | inr b ↦ rw (a, b) ]
+      | inr a ↦ elim (even-or-odd (natAbs va)) [ inl b ↦ rw (a, b) | inr b ↦ rw (a, b) ]
+    ])

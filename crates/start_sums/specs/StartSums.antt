@@ -57,6 +57,7 @@ gammaAbove z = gammaNear (fraction z) ⊗ falling z (lastOf (toSigned 31 z))
 abbrev pub reflected : Float → Float → Float
 reflected x ga = neg pi ⊘ (x ⊗ ga ⊗ sin (pi ⊗ x))
 
+-- "x == x.trunc()", "x > 0.0", "x.abs() > 1.0", "x < 0.0"
 pub gamma2 : Float → Float
 gamma2 x =
     cond (eq x (truncated x))
@@ -81,12 +82,12 @@ dvsaAtZero va =
     let va0 = f½ ⊗ (f1 ⊖ va) in
     cond (isPole va0) f0 (rootPi ⊘ (exp2 (neg f½ ⊗ va) ⊗ gamma2 va0))
 
--- term m of the sum over Γ((m − va)/2) (−√2 x)^m / m!, with r and pd before it
+-- term m of the sum over Γ((m − va)/2) (−√2 x)^m / m!, with r₀ and pd₀ before it
 unfoldable pub dvsaTurn : Float → Float → ℕ → Float × Float → Turn (Float × Float)
-dvsaTurn x va m s =
-    let r = neg (s .0) ⊗ root2 ⊗ x ⊘ whole m in
+dvsaTurn x va m (r₀, pd₀) =
+    let r = neg r₀ ⊗ root2 ⊗ x ⊘ whole m in
     let r1 = gamma2 (f½ ⊗ (whole m ⊖ va)) ⊗ r in
-    let pd = s .1 ⊕ r1 in
+    let pd = pd₀ ⊕ r1 in
     (lt (absolute r1) (absolute pd ⊗ smallEpsilon), (r, pd))
 
 -- r and pd after "for m in 1..=250"
@@ -97,6 +98,7 @@ dvsaSum x va g0 = countUp (dvsaTurn x va) 250 1 (false, (f1, g0))
 abbrev pub dvsaFactor : Float → Float → Float
 dvsaFactor x va = exp2 (neg f½ ⊗ va ⊖ f1) ⊗ decay x ⊘ gamma2 (neg va)
 
+-- "pd *= a0", the sum being from g0 on
 pub dvsa : Float → Float → Float
 dvsa x va =
     cond (eq va f0) (decay x)
@@ -105,12 +107,12 @@ dvsa x va =
 
 -- ---- dvla: D for large arguments
 
--- term k of the expansion with (−1)^k (−va)(1 − va)…(2k − 1 − va) / (k! (2x²)^k), r and pd before it
+-- term k of the expansion with (−1)^k (−va)(1 − va)…(2k − 1 − va) / (k! (2x²)^k), r₀ and pd₀ before it
 unfoldable pub dvlaTurn : Float → Float → ℕ → Float × Float → Turn (Float × Float)
-dvlaTurn x va k s =
+dvlaTurn x va k (r₀, pd₀) =
     let kf = whole k in
-    let r = neg f½ ⊗ s .0 ⊗ (f2 ⊗ kf ⊖ va ⊖ f1) ⊗ (f2 ⊗ kf ⊖ va ⊖ f2) ⊘ (kf ⊗ x ⊗ x) in
-    let pd = s .1 ⊕ r in
+    let r = neg f½ ⊗ r₀ ⊗ (f2 ⊗ kf ⊖ va ⊖ f1) ⊗ (f2 ⊗ kf ⊖ va ⊖ f2) ⊘ (kf ⊗ x ⊗ x) in
+    let pd = pd₀ ⊕ r in
     (lt (absolute (r ⊘ pd)) largeEpsilon, (r, pd))
 
 -- r and pd after "for k in 1..=16"
@@ -127,12 +129,12 @@ dvlaJoined va pd vl = pi ⊗ vl ⊘ gamma2 (neg va) ⊕ cos (pi ⊗ va) ⊗ pd
 
 -- ---- vvla: V for large arguments
 
--- term k of the expansion with (va + 1)(va + 2)…(va + 2k) / (k! (2x²)^k), r and pv before it
+-- term k of the expansion with (va + 1)(va + 2)…(va + 2k) / (k! (2x²)^k), r₀ and pv₀ before it
 unfoldable pub vvlaTurn : Float → Float → ℕ → Float × Float → Turn (Float × Float)
-vvlaTurn x va k s =
+vvlaTurn x va k (r₀, pv₀) =
     let kf = whole k in
-    let r = f½ ⊗ s .0 ⊗ (f2 ⊗ kf ⊕ va ⊖ f1) ⊗ (f2 ⊗ kf ⊕ va) ⊘ (kf ⊗ x ⊗ x) in
-    let pv = s .1 ⊕ r in
+    let r = f½ ⊗ r₀ ⊗ (f2 ⊗ kf ⊕ va ⊖ f1) ⊗ (f2 ⊗ kf ⊕ va) ⊘ (kf ⊗ x ⊗ x) in
+    let pv = pv₀ ⊕ r in
     (lt (absolute (r ⊘ pv)) largeEpsilon, (r, pv))
 
 -- r and pv after "for k in 1..=18"
@@ -169,14 +171,14 @@ vvsaAtZero va =
     let va0 = f1 ⊕ f½ ⊗ va in
     cond (isPole va0 || eq va f0) f0 (exp2 (neg f½ ⊗ va) ⊗ sin (va0 ⊗ pi) ⊘ gamma2 va0)
 
--- term m of the sum over (1 + (−1)^m sv) Γ((m − va)/2) (√2 x)^m / m!, with r, fac and pv before it. The stop test leaves the weight gw out.
+-- term m of the sum over (1 + (−1)^m sv) Γ((m − va)/2) (√2 x)^m / m!, with r₀, fac₀ and pv₀ before it. The stop test leaves the weight gw out.
 unfoldable pub vvsaTurn : Float → Float → Float → ℕ → Float × Float × Float → Turn (Float × Float × Float)
-vvsaTurn x va sv m s =
+vvsaTurn x va sv m (r₀, fac₀, pv₀) =
     let gm = gamma2 (f½ ⊗ (whole m ⊖ va)) in
-    let r = s .0 ⊗ root2 ⊗ x ⊘ whole m in
-    let fac = neg (s .1) in
+    let r = r₀ ⊗ root2 ⊗ x ⊘ whole m in
+    let fac = neg fac₀ in
     let gw = fac ⊗ sv ⊕ f1 in
-    let pv = s .2 ⊕ gw ⊗ r ⊗ gm in
+    let pv = pv₀ ⊕ gw ⊗ r ⊗ gm in
     (lt (absolute (r ⊗ gm ⊘ pv)) smallEpsilon, (r, fac, pv))
 
 -- r, fac and pv after "for m in 1..=250"
@@ -187,7 +189,7 @@ vvsaSum x va sv pv = countUp (vvsaTurn x va sv) 250 1 (false, (f1, f1, pv))
 abbrev pub vvsaFactor : Float → Float → Float
 vvsaFactor x va = exp2 (neg f½ ⊗ va) ⊗ decay x ⊘ tau
 
--- "sv = (-(va + 0.5) * PI).sin()", "pv = (sv + 1.0) * g1"
+-- "sv = (-(va + 0.5) * PI).sin()", "pv = (sv + 1.0) * g1", "pv *= a0"
 pub vvsa : Float → Float → Float
 vvsa x va =
     let sv = orderSine va in

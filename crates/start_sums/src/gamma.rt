@@ -3,39 +3,63 @@
 ghost use mathlib.Core.Path.{_≡_};
 ghost use lib.Ieee.{toSigned};
 ghost use Rattle.start_sums.specs.StartSums.{lastOf, factorial, falling, reciprocalSeries, gammaNear, gammaAbove, gamma2};
+use crate::constants::PI;
 use elementary::sin;
 use floats::abs;
 use floats::is_infinite;
 
-// The coefficients of 1/Γ, the first one first.
-const G: [f64; 26] = [
-    1.0000000000000000e+00,
-    0.5772156649015329e+00,
-    -0.6558780715202538e+00,
-    -0.4200263503409520e-01,
-    0.1665386113822915e+00,
-    -0.4219773455554430e-01,
-    -0.9621971527877000e-02,
-    0.7218943246663000e-02,
-    -0.1165167591859100e-02,
-    -0.2152416741149000e-03,
-    0.1280502823882000e-03,
-    -0.2013485478070000e-04,
-    -0.1250493482100000e-05,
-    0.1133027232000000e-05,
-    -0.2056338417000000e-06,
-    0.6116095000000000e-08,
-    0.5002007500000000e-08,
-    -0.1181274600000000e-08,
-    0.1043427000000000e-09,
-    0.7782300000000000e-11,
-    -0.3696800000000000e-11,
-    0.5100000000000000e-12,
-    -0.2060000000000000e-13,
-    -0.5400000000000000e-14,
-    0.1400000000000000e-14,
-    0.1000000000000000e-15,
-];
+// The source's table G: the coefficients of 1/Γ, under DLMF's names (5.7.1).
+const C1: f64 = 1.0000000000000000e+00;
+
+const C2: f64 = 0.5772156649015329e+00;
+
+const C3: f64 = -0.6558780715202538e+00;
+
+const C4: f64 = -0.4200263503409520e-01;
+
+const C5: f64 = 0.1665386113822915e+00;
+
+const C6: f64 = -0.4219773455554430e-01;
+
+const C7: f64 = -0.9621971527877000e-02;
+
+const C8: f64 = 0.7218943246663000e-02;
+
+const C9: f64 = -0.1165167591859100e-02;
+
+const C10: f64 = -0.2152416741149000e-03;
+
+const C11: f64 = 0.1280502823882000e-03;
+
+const C12: f64 = -0.2013485478070000e-04;
+
+const C13: f64 = -0.1250493482100000e-05;
+
+const C14: f64 = 0.1133027232000000e-05;
+
+const C15: f64 = -0.2056338417000000e-06;
+
+const C16: f64 = 0.6116095000000000e-08;
+
+const C17: f64 = 0.5002007500000000e-08;
+
+const C18: f64 = -0.1181274600000000e-08;
+
+const C19: f64 = 0.1043427000000000e-09;
+
+const C20: f64 = 0.7782300000000000e-11;
+
+const C21: f64 = -0.3696800000000000e-11;
+
+const C22: f64 = 0.5100000000000000e-12;
+
+const C23: f64 = -0.2060000000000000e-13;
+
+const C24: f64 = -0.5400000000000000e-14;
+
+const C25: f64 = 0.1400000000000000e-14;
+
+const C26: f64 = 0.1000000000000000e-15;
 
 // The last k of a loop that counts up to y as an i32.
 fn last_factor(y: f64) -> u32
@@ -76,15 +100,15 @@ fn falling(z: f64, m: u32) -> f64
     r
 }
 
-// The series of 1/Γ(z), divided by z. The indices are written out, so that each coefficient is a constant of the code.
+// The series of 1/Γ(z), divided by z.
 fn reciprocal_series(z: f64) -> f64
     ensures { λ r. ⌜ r ≡ reciprocalSeries z ⌝ }
 {
-    let a = ((((G[25] * z + G[24]) * z + G[23]) * z + G[22]) * z + G[21]) * z + G[20];
-    let b = ((((a * z + G[19]) * z + G[18]) * z + G[17]) * z + G[16]) * z + G[15];
-    let c = ((((b * z + G[14]) * z + G[13]) * z + G[12]) * z + G[11]) * z + G[10];
-    let d = ((((c * z + G[9]) * z + G[8]) * z + G[7]) * z + G[6]) * z + G[5];
-    ((((d * z + G[4]) * z + G[3]) * z + G[2]) * z + G[1]) * z + G[0]
+    let a = ((((C26 * z + C25) * z + C24) * z + C23) * z + C22) * z + C21;
+    let b = ((((a * z + C20) * z + C19) * z + C18) * z + C17) * z + C16;
+    let c = ((((b * z + C15) * z + C14) * z + C13) * z + C12) * z + C11;
+    let d = ((((c * z + C10) * z + C9) * z + C8) * z + C7) * z + C6;
+    ((((d * z + C5) * z + C4) * z + C3) * z + C2) * z + C1
 }
 
 // Γ(z) for a size of z up to 1.
@@ -115,7 +139,7 @@ pub fn gamma2(x: f64) -> f64
     if z > 1.0 {
         let ga = gamma_above(z);
         if x < 0.0 {
-            return -3.141592653589793 / (x * ga * sin(3.141592653589793 * x));
+            return -PI / (x * ga * sin(PI * x));
         }
         return ga;
     }

@@ -2,6 +2,8 @@
 
 ghost use mathlib.Core.Path.{_≡_};
 ghost use Rattle.start_sums.specs.StartSums.{dvlaSum, dvlaExpansion, dvlaJoined, dvla, vvlaSum, vvlaExpansion, vvlaJoined, vvla};
+use crate::constants::PI;
+use crate::constants::SQRT_FRAC_2_PI;
 use crate::gamma::gamma2;
 use elementary::cos;
 use elementary::exp;
@@ -55,7 +57,7 @@ fn dvla_expansion(x: f64, va: f64) -> f64
 fn vvla_expansion(x: f64, va: f64) -> f64
     ensures { λ r. ⌜ r ≡ vvlaExpansion x va ⌝ }
 {
-    let a0 = pow(abs(x), -va - 1.0) * 0.7978845608028654 * exp(0.25 * x * x);
+    let a0 = pow(abs(x), -va - 1.0) * SQRT_FRAC_2_PI * exp(0.25 * x * x);
     vvla_sum(x, va) * a0
 }
 
@@ -63,16 +65,16 @@ fn vvla_expansion(x: f64, va: f64) -> f64
 fn dvla_joined(va: f64, pd: f64, vl: f64) -> f64
     ensures { λ r. ⌜ r ≡ dvlaJoined va pd vl ⌝ }
 {
-    3.141592653589793 * vl / gamma2(-va) + cos(3.141592653589793 * va) * pd
+    PI * vl / gamma2(-va) + cos(PI * va) * pd
 }
 
 // V at a negative argument: pv is its expansion there, pdl is D at the positive one.
 fn vvla_joined(va: f64, pv: f64, pdl: f64) -> f64
     ensures { λ r. ⌜ r ≡ vvlaJoined va pv pdl ⌝ }
 {
-    let s = sin(3.141592653589793 * va);
+    let s = sin(PI * va);
     let dsl = s * s;
-    dsl * gamma2(-va) / 3.141592653589793 * pdl - cos(3.141592653589793 * va) * pv
+    dsl * gamma2(-va) / PI * pdl - cos(PI * va) * pv
 }
 
 // D for large arguments.

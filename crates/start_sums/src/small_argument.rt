@@ -2,6 +2,10 @@
 
 ghost use mathlib.Core.Path.{_≡_};
 ghost use Rattle.start_sums.specs.StartSums.{isPole, dvsaAtZero, dvsaSum, dvsa, vvsaAtZero, vvsaSum, vvsa};
+use crate::constants::PI;
+use crate::constants::SQRT_2;
+use crate::constants::SQRT_PI;
+use crate::constants::TAU;
 use crate::gamma::gamma2;
 use elementary::exp;
 use elementary::exp2;
@@ -26,7 +30,7 @@ fn dvsa_at_zero(va: f64) -> f64
     if is_pole(va0) {
         return 0.0;
     }
-    1.7724538509055159 / (exp2(-0.5 * va) * gamma2(va0))
+    SQRT_PI / (exp2(-0.5 * va) * gamma2(va0))
 }
 
 // The series of D, from its first term g0.
@@ -38,7 +42,7 @@ fn dvsa_sum(x: f64, va: f64, g0: f64) -> f64
     for m in 1..=250u32 {
         let mf = m as f64;
         let gm = gamma2(0.5 * (mf - va));
-        r = -r * 1.4142135623730951 * x / mf;
+        r = -r * SQRT_2 * x / mf;
         let r1 = gm * r;
         pd = pd + r1;
         if abs(r1) < abs(pd) * 1e-15 {
@@ -73,7 +77,7 @@ fn vvsa_at_zero(va: f64) -> f64
     if va == 0.0 {
         return 0.0;
     }
-    exp2(-0.5 * va) * sin(va0 * 3.141592653589793) / gamma2(va0)
+    exp2(-0.5 * va) * sin(va0 * PI) / gamma2(va0)
 }
 
 // The series of V, from its first term pv0. The stop test leaves the weight out.
@@ -86,7 +90,7 @@ fn vvsa_sum(x: f64, va: f64, sv: f64, pv0: f64) -> f64
     for m in 1u32..=250 {
         let mf = m as f64;
         let gm = gamma2(0.5 * (mf - va));
-        r = r * 1.4142135623730951 * x / mf;
+        r = r * SQRT_2 * x / mf;
         fac = -fac;
         let gw = fac * sv + 1.0;
         pv = pv + gw * r * gm;
@@ -104,7 +108,7 @@ pub fn vvsa(x: f64, va: f64) -> f64
     if x == 0.0 {
         return vvsa_at_zero(va);
     }
-    let a0 = exp2(-0.5 * va) * exp(-0.25 * x * x) / 6.283185307179586;
-    let sv = sin(-(va + 0.5) * 3.141592653589793);
+    let a0 = exp2(-0.5 * va) * exp(-0.25 * x * x) / TAU;
+    let sv = sin(-(va + 0.5) * PI);
     vvsa_sum(x, va, sv, (sv + 1.0) * gamma2(-0.5 * va)) * a0
 }

@@ -1,5 +1,5 @@
 -- What each of the five definitions is, case by case. Other crates cite proofs/Laws.antt instead.
-use mathlib.Core.Path.{_≡_, refl}
+use mathlib.Core.Path.{_≡_}
 use mathlib.Core.Bool.{true, false}
 use lib.Ieee.{Float, lt, eq, neg, toSigned}
 use Rattle.floats.specs.Operations.{_⊕_, _⊖_, _⊗_, f0, f½, f1}

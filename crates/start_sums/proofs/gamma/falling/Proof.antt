@@ -3,7 +3,6 @@ use mathlib.Core.Path.{_≡_, refl}
 use mathlib.Core.Bool.{false}
 use Prim.Native.Nat.{ℕ, _+_, _-_}
 use native.Mathlib.Omega.{arith}
-use borrow.Author.Needs.{needs}
 use Rattle.floats.specs.Operations.{_⊖_, whole}
 use Rattle.floats.specs.Loops.{countUp}
 use Rattle.floats.proofs.Loops.{goes, stops, done}
@@ -23,7 +22,7 @@ falling-spec =
     tie.close
     (tie.spec Inv-loop μ-loop
     (λ c. refl)
-    (λ c. search needs)
+    (λ c. tt)
     (λ c κs. tt)
     (λ c.
     let i = c .before in

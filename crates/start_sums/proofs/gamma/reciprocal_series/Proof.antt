@@ -1,6 +1,5 @@
 -- `start_sums::gamma::reciprocal_series` meets its contract: the polynomial's recursion, written out.
 use mathlib.Core.Path.{refl}
-use lib.Dec.{lit≤}
 use Rattle.start_sums.specs.StartSums.{polynomial, reciprocalSeries}
 use Rattle.start_sums.proofs.gamma.reciprocal_series.Statement.{statement}
 use Rattle.start_sums.proofs.gamma.reciprocal_series.Tie as tie
@@ -10,9 +9,4 @@ unfolding polynomial reciprocalSeries
 reciprocal-series-spec =
     tie.close
     (tie.spec
-    (λ c. lit≤ tt) (λ c. lit≤ tt) (λ c. lit≤ tt) (λ c. lit≤ tt) (λ c. lit≤ tt) (λ c. lit≤ tt)
-    (λ c. lit≤ tt) (λ c. lit≤ tt) (λ c. lit≤ tt) (λ c. lit≤ tt) (λ c. lit≤ tt)
-    (λ c. lit≤ tt) (λ c. lit≤ tt) (λ c. lit≤ tt) (λ c. lit≤ tt) (λ c. lit≤ tt)
-    (λ c. lit≤ tt) (λ c. lit≤ tt) (λ c. lit≤ tt) (λ c. lit≤ tt) (λ c. lit≤ tt)
-    (λ c. lit≤ tt) (λ c. lit≤ tt) (λ c. lit≤ tt) (λ c. lit≤ tt) (λ c. lit≤ tt)
     (λ c. refl))

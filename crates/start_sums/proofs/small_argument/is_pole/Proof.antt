@@ -1,7 +1,7 @@
 -- `start_sums::small_argument::is_pole` meets its contract.
 use mir.Syntax.{w32}
 use mir.ValLaws.{toZ-ofZ}
-use borrow.Author.Needs.{needs, sfits-of}
+use borrow.Author.Needs.{sfits-of}
 use Rattle.start_sums.specs.StartSums.{isPole}
 use Rattle.start_sums.proofs.small_argument.is_pole.Statement.{statement}
 use Rattle.start_sums.proofs.small_argument.is_pole.Tie as tie
@@ -12,7 +12,7 @@ is-pole-spec =
     tie.close
     (tie.spec
     (λ c κs. tt)
-    (λ c. search needs)
+    (λ c. tt)
     (λ c.
     let n = c .before in
     rw (n .before .if1 .taken, toZ-ofZ w32 (n .to-i32 .result) (sfits-of (n .to-i32 .ok)), n .to-i32 .ensures))

@@ -3,7 +3,6 @@ use mathlib.Core.Path.{_≡_, refl, ap}
 use mathlib.Core.Bool.{false}
 use Prim.Native.Nat.{_-_}
 use native.Mathlib.Omega.{arith}
-use borrow.Author.Needs.{needs}
 use lib.Ieee.{Float}
 use Rattle.floats.specs.Loops.{countUp}
 use Rattle.floats.proofs.Loops.{goes, stops, done}
@@ -23,7 +22,7 @@ vvsa-sum-spec =
     tie.close
     (tie.spec Inv-loop μ-loop
     (λ c. refl)
-    (λ c. search needs)
+    (λ c. tt)
     (λ c κs. tt)
     (λ c κs. tt)
     (λ c.

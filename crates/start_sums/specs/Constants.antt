@@ -39,20 +39,20 @@ unfolding decimal ofBits
 rootTwoOverPi-is = refl
 
 -- 1e-15: the eps of dvsa and vvsa
-abbrev pub smallEpsilon : Float
-smallEpsilon = bits 0x3cd2_03af_9ee7_5616
+abbrev pub seriesEpsilon : Float
+seriesEpsilon = bits 0x3cd2_03af_9ee7_5616
 
-pub smallEpsilon-is : smallEpsilon ≡ decimal 1 15
+pub seriesEpsilon-is : seriesEpsilon ≡ decimal 1 15
 unfolding decimal ofBits
-smallEpsilon-is = refl
+seriesEpsilon-is = refl
 
 -- 1e-12: the eps of dvla and vvla
-abbrev pub largeEpsilon : Float
-largeEpsilon = bits 0x3d71_9799_812d_ea11
+abbrev pub expansionEpsilon : Float
+expansionEpsilon = bits 0x3d71_9799_812d_ea11
 
-pub largeEpsilon-is : largeEpsilon ≡ decimal 1 12
+pub expansionEpsilon-is : expansionEpsilon ≡ decimal 1 12
 unfolding decimal ofBits
-largeEpsilon-is = refl
+expansionEpsilon-is = refl
 
 -- 1e300: the source's SPECFUN_INF
 abbrev pub poleValue : Float

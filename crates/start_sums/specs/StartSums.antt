@@ -1,6 +1,7 @@
 -- 01, "Bottom rungs", in the order of the source: gamma2 (src/xsf/specfun/gamma.rs), then dvsa, dvla, vvla and vvsa (src/xsf/par_cyl.rs). Each step is
 -- one rounded operation, left to right. In DLMF's words D of the order v is U(a, x) and V of the order v is V(a, x), with a = −v − 1/2 (DLMF 12.1).
--- The definitions of the five are shut: other crates cannot unfold them. What they may know of them are the contracts and the laws of proofs/Laws.antt.
+-- The definitions of the five are shut: other crates cannot unfold them. What they may know of them are the contracts and the laws of proofs/Laws.antt and
+-- proofs/Poles.antt.
 pub mod Open
 pub mod Examples
 use Prim.Native.Nat.{ℕ, _+_, _-_}
@@ -14,7 +15,7 @@ use Rattle.floats.specs.Loops.{Turn, countUp}
 use Rattle.elementary.specs.Constants.{root2, f2}
 use Rattle.elementary.specs.Elementary.{exp, exp2, sin, cos, power}
 use Rattle.elementary.specs.QuarterTurns.{pi, orderSine}
-use Rattle.start_sums.specs.Constants.{quarter, tau, rootPi, rootTwoOverPi, smallEpsilon, largeEpsilon, poleValue, gammaCoefficients}
+use Rattle.start_sums.specs.Constants.{quarter, tau, rootPi, rootTwoOverPi, seriesEpsilon, expansionEpsilon, poleValue, gammaCoefficients}
 
 -- ---- gamma2: Γ(x), which has poles at 0, −1, −2, … (DLMF 5.2(i))
 
@@ -73,8 +74,8 @@ unfoldable pub isPole : Float → Bool
 isPole y = le y f0 && eq y (float (toSigned 31 y))
 
 -- "ep = (-0.25 * x * x).exp()"
-abbrev pub decay : Float → Float
-decay x = exp (neg quarter ⊗ x ⊗ x)
+abbrev pub ep : Float → Float
+ep x = exp (neg quarter ⊗ x ⊗ x)
 
 -- at x = 0: √π / (2^(−va/2) Γ((1 − va)/2)) (DLMF 12.2.6)
 unfoldable pub dvsaAtZero : Float → Float
@@ -88,7 +89,7 @@ dvsaTurn x va m (r₀, pd₀) =
     let r = neg r₀ ⊗ root2 ⊗ x ⊘ whole m in
     let r1 = gamma2 (f½ ⊗ (whole m ⊖ va)) ⊗ r in
     let pd = pd₀ ⊕ r1 in
-    (lt (absolute r1) (absolute pd ⊗ smallEpsilon), (r, pd))
+    (lt (absolute r1) (absolute pd ⊗ seriesEpsilon), (r, pd))
 
 -- r and pd after "for m in 1..=250"
 unfoldable pub dvsaSum : Float → Float → Float → Float × Float
@@ -96,12 +97,12 @@ dvsaSum x va g0 = countUp (dvsaTurn x va) 250 1 (false, (f1, g0))
 
 -- "a0 = (-0.5 * va - 1.0).exp2() * ep / g1"
 abbrev pub dvsaFactor : Float → Float → Float
-dvsaFactor x va = exp2 (neg f½ ⊗ va ⊖ f1) ⊗ decay x ⊘ gamma2 (neg va)
+dvsaFactor x va = exp2 (neg f½ ⊗ va ⊖ f1) ⊗ ep x ⊘ gamma2 (neg va)
 
 -- "pd *= a0", the sum being from g0 on
 pub dvsa : Float → Float → Float
 dvsa x va =
-    cond (eq va f0) (decay x)
+    cond (eq va f0) (ep x)
     (cond (eq x f0) (dvsaAtZero va)
     (dvsaSum x va (gamma2 (neg f½ ⊗ va)) .1 ⊗ dvsaFactor x va))
 
@@ -113,7 +114,7 @@ dvlaTurn x va k (r₀, pd₀) =
     let kf = whole k in
     let r = neg f½ ⊗ r₀ ⊗ (f2 ⊗ kf ⊖ va ⊖ f1) ⊗ (f2 ⊗ kf ⊖ va ⊖ f2) ⊘ (kf ⊗ x ⊗ x) in
     let pd = pd₀ ⊕ r in
-    (lt (absolute (r ⊘ pd)) largeEpsilon, (r, pd))
+    (lt (absolute (r ⊘ pd)) expansionEpsilon, (r, pd))
 
 -- r and pd after "for k in 1..=16"
 unfoldable pub dvlaSum : Float → Float → Float × Float
@@ -121,7 +122,7 @@ dvlaSum x va = countUp (dvlaTurn x va) 16 1 (false, (f1, f1))
 
 -- "pd *= a0" with "a0 = x.abs().powf(va) * ep" (DLMF 12.9.1)
 unfoldable pub dvlaExpansion : Float → Float → Float
-dvlaExpansion x va = dvlaSum x va .1 ⊗ (power (absolute x) va ⊗ decay x)
+dvlaExpansion x va = dvlaSum x va .1 ⊗ (power (absolute x) va ⊗ ep x)
 
 -- "pd = PI * vl / gl + (PI * va).cos() * pd": D at −x by D and V at x (DLMF 12.2.15)
 unfoldable pub dvlaJoined : Float → Float → Float → Float
@@ -135,7 +136,7 @@ vvlaTurn x va k (r₀, pv₀) =
     let kf = whole k in
     let r = f½ ⊗ r₀ ⊗ (f2 ⊗ kf ⊕ va ⊖ f1) ⊗ (f2 ⊗ kf ⊕ va) ⊘ (kf ⊗ x ⊗ x) in
     let pv = pv₀ ⊕ r in
-    (lt (absolute (r ⊘ pv)) largeEpsilon, (r, pv))
+    (lt (absolute (r ⊘ pv)) expansionEpsilon, (r, pv))
 
 -- r and pv after "for k in 1..=18"
 unfoldable pub vvlaSum : Float → Float → Float × Float
@@ -179,7 +180,7 @@ vvsaTurn x va sv m (r₀, fac₀, pv₀) =
     let fac = neg fac₀ in
     let gw = fac ⊗ sv ⊕ f1 in
     let pv = pv₀ ⊕ gw ⊗ r ⊗ gm in
-    (lt (absolute (r ⊗ gm ⊘ pv)) smallEpsilon, (r, fac, pv))
+    (lt (absolute (r ⊗ gm ⊘ pv)) seriesEpsilon, (r, fac, pv))
 
 -- r, fac and pv after "for m in 1..=250"
 unfoldable pub vvsaSum : Float → Float → Float → Float → Float × Float × Float
@@ -187,7 +188,7 @@ vvsaSum x va sv pv = countUp (vvsaTurn x va sv) 250 1 (false, (f1, f1, pv))
 
 -- "a0 = (-0.5 * va).exp2() * ep / TAU"
 abbrev pub vvsaFactor : Float → Float → Float
-vvsaFactor x va = exp2 (neg f½ ⊗ va) ⊗ decay x ⊘ tau
+vvsaFactor x va = exp2 (neg f½ ⊗ va) ⊗ ep x ⊘ tau
 
 -- "sv = (-(va + 0.5) * PI).sin()", "pv = (sv + 1.0) * g1", "pv *= a0"
 pub vvsa : Float → Float → Float

@@ -1,4 +1,4 @@
--- What each of the five definitions is, case by case. Other crates cite proofs/Laws.antt instead.
+-- What each of the five definitions is, case by case. Only this crate's proofs cite these laws.
 use mathlib.Core.Path.{_≡_}
 use mathlib.Core.Bool.{true, false}
 use lib.Ieee.{Float, lt, eq, neg, toSigned}
@@ -7,7 +7,7 @@ use Rattle.floats.specs.Functions.{absolute, truncated}
 use Rattle.floats.proofs.Signs.{negated-not-below}
 use Rattle.elementary.specs.QuarterTurns.{orderSine}
 use Rattle.start_sums.specs.Constants.{poleValue}
-use Rattle.start_sums.specs.StartSums.{lastOf, factorial, gammaNear, gammaAbove, reflected, gamma2, decay, dvsaAtZero, dvsaSum, dvsaFactor, dvsa}
+use Rattle.start_sums.specs.StartSums.{lastOf, factorial, gammaNear, gammaAbove, reflected, gamma2, ep, dvsaAtZero, dvsaSum, dvsaFactor, dvsa}
 use Rattle.start_sums.specs.StartSums.{dvlaExpansion, dvlaJoined, dvla, vvlaExpansion, vvlaJoined, vvla, vvsaAtZero, vvsaSum, vvsaFactor, vvsa}
 
 -- ---- gamma2
@@ -34,7 +34,7 @@ gamma2-below x w a n = rw (w, a, n)
 
 -- ---- dvsa
 
-pub dvsa-order-zero : (x va : Float) → eq va f0 ≡ true → dvsa x va ≡ decay x
+pub dvsa-order-zero : (x va : Float) → eq va f0 ≡ true → dvsa x va ≡ ep x
 unfolding dvsa
 dvsa-order-zero x va o = rw o
 

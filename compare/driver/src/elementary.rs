@@ -4,7 +4,7 @@ mod own;
 #[cfg(test)]
 mod tests;
 
-use crate::functions::{Function, Pair, Sides};
+use crate::functions::{Function, Pair, Sides, function};
 
 /// The library's functions.
 mod library {
@@ -55,28 +55,20 @@ mod reference {
     }
 }
 
-macro_rules! function {
-    ($number:literal, $sides:ident, $name:ident, $library:ident, $own:ident) => {
-        Function::new(
-            $number,
-            stringify!($name),
-            Sides::$sides(Pair {
-                library: library::$library,
-                reference: reference::$name,
-            }),
-            Some(own::$own),
-        )
-    };
-}
-
 /// The functions by their numbers in the stored answers.
 pub const FUNCTIONS: [Function; 8] = [
-    function!(11, Number, exp, compared_exp, EXP),
-    function!(12, Number, exp2, compared_exp2, EXP2),
-    function!(13, Number, exp_m1, compared_exp_m1, EXP_M1),
-    function!(14, Number, ln, compared_ln, POSITIVE),
-    function!(15, NumberOfTwo, pow, compared_pow, POW),
-    function!(16, Number, sin, compared_sin, ANGLES),
-    function!(17, Number, cos, compared_cos, ANGLES),
-    function!(18, Number, square_root, compared_square_root, POSITIVE),
+    function!(11, Number, exp, compared_exp, Some(own::EXP)),
+    function!(12, Number, exp2, compared_exp2, Some(own::EXP2)),
+    function!(13, Number, exp_m1, compared_exp_m1, Some(own::EXP_M1)),
+    function!(14, Number, ln, compared_ln, Some(own::POSITIVE)),
+    function!(15, NumberOfTwo, pow, compared_pow, Some(own::POW)),
+    function!(16, Number, sin, compared_sin, Some(own::ANGLES)),
+    function!(17, Number, cos, compared_cos, Some(own::ANGLES)),
+    function!(
+        18,
+        Number,
+        square_root,
+        compared_square_root,
+        Some(own::POSITIVE)
+    ),
 ];

@@ -1,6 +1,6 @@
 //! The library crate `floats`: what the text needs of f64 beside its arithmetic.
 
-use crate::functions::{Function, Pair, Sides};
+use crate::functions::{Function, Pair, Sides, function};
 
 /// The library's functions.
 mod library {
@@ -63,30 +63,16 @@ mod reference {
     }
 }
 
-macro_rules! function {
-    ($number:literal, $sides:ident, $name:ident, $library:ident) => {
-        Function::new(
-            $number,
-            stringify!($name),
-            Sides::$sides(Pair {
-                library: library::$library,
-                reference: reference::$name,
-            }),
-            None,
-        )
-    };
-}
-
 /// The functions by their numbers in the stored answers.
 pub const FUNCTIONS: [Function; 10] = [
-    function!(1, Number, abs, compared_abs),
-    function!(2, Truth, is_nan, compared_is_nan),
-    function!(3, Truth, is_infinite, compared_is_infinite),
-    function!(4, Whole, to_i32, compared_to_i32),
-    function!(5, Number, trunc, compared_trunc),
-    function!(6, Number, fract, compared_fract),
-    function!(7, NumberOfTwo, min, compared_min),
-    function!(8, NumberOfTwo, max, compared_max),
-    function!(9, Number, signum, compared_signum),
-    function!(10, TruthOfTwo, alike, compared_alike),
+    function!(1, Number, abs, compared_abs, None),
+    function!(2, Truth, is_nan, compared_is_nan, None),
+    function!(3, Truth, is_infinite, compared_is_infinite, None),
+    function!(4, Whole, to_i32, compared_to_i32, None),
+    function!(5, Number, trunc, compared_trunc, None),
+    function!(6, Number, fract, compared_fract, None),
+    function!(7, NumberOfTwo, min, compared_min, None),
+    function!(8, NumberOfTwo, max, compared_max, None),
+    function!(9, Number, signum, compared_signum, None),
+    function!(10, TruthOfTwo, alike, compared_alike, None),
 ];

@@ -3,6 +3,23 @@
 use crate::comparing::Tally;
 use crate::inputs::{self, Input, OwnInputs};
 
+/// A function by its number, the kind of its sides, its name and its own inputs: `library` and
+/// `reference` are modules where it is used.
+macro_rules! function {
+    ($number:literal, $sides:ident, $name:ident, $library:ident, $own:expr) => {
+        Function::new(
+            $number,
+            stringify!($name),
+            Sides::$sides(Pair {
+                library: library::$library,
+                reference: reference::$name,
+            }),
+            $own,
+        )
+    };
+}
+pub(crate) use function;
+
 /// A function of the library with its reference.
 pub struct Function {
     /// Its number in the stored answers.
@@ -102,6 +119,16 @@ mod tests {
 
     /// Enough for all edge inputs and many drawn ones.
     const COUNT: usize = 300_000;
+
+    #[test]
+    fn numbers_and_names() {
+        let functions = CRATES.iter().flat_map(|(_, functions)| *functions);
+        let functions: Vec<_> = functions.map(|f| (f.number, f.name)).collect();
+        let names = "abs is_nan is_infinite to_i32 trunc fract min max signum alike \
+                     exp exp2 exp_m1 ln pow sin cos square_root gamma2 dvsa dvla vvsa vvla";
+        let expected: Vec<_> = (1..).zip(names.split(' ')).collect();
+        assert_eq!(functions, expected);
+    }
 
     #[test]
     fn the_seed_fixes_the_inputs_and_the_count_is_kept() {

@@ -5,7 +5,7 @@ mod terms;
 #[cfg(test)]
 mod tests;
 
-use crate::functions::{Function, Pair, Sides};
+use crate::functions::{Function, Pair, Sides, function};
 
 /// The library's functions.
 mod library {
@@ -43,25 +43,11 @@ mod reference {
     }
 }
 
-macro_rules! function {
-    ($number:literal, $sides:ident, $name:ident, $library:ident, $own:ident) => {
-        Function::new(
-            $number,
-            stringify!($name),
-            Sides::$sides(Pair {
-                library: library::$library,
-                reference: reference::$name,
-            }),
-            Some(own::$own),
-        )
-    };
-}
-
 /// The functions by their numbers in the stored answers.
 pub const FUNCTIONS: [Function; 5] = [
-    function!(19, Number, gamma2, compared_gamma2, GAMMA2),
-    function!(20, NumberOfTwo, dvsa, compared_dvsa, DVSA),
-    function!(21, NumberOfTwo, dvla, compared_dvla, DVLA),
-    function!(22, NumberOfTwo, vvsa, compared_vvsa, VVSA),
-    function!(23, NumberOfTwo, vvla, compared_vvla, VVLA),
+    function!(19, Number, gamma2, compared_gamma2, Some(own::GAMMA2)),
+    function!(20, NumberOfTwo, dvsa, compared_dvsa, Some(own::DVSA)),
+    function!(21, NumberOfTwo, dvla, compared_dvla, Some(own::DVLA)),
+    function!(22, NumberOfTwo, vvsa, compared_vvsa, Some(own::VVSA)),
+    function!(23, NumberOfTwo, vvla, compared_vvla, Some(own::VVLA)),
 ];

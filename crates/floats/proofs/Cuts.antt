@@ -1,16 +1,18 @@
 -- A float as an i32: within the range it is what it is as an i64, and beyond an end of the range it is that end. Assumes nothing.
-use mathlib.Core.Path.{_≡_, refl, sym, subst, ap}
+use mathlib.Core.Path.{_≡_, refl, sym, subst, ap, _∙_}
 use mathlib.Core.Bool.{true, false}
 use Prim.Native.Nat.{ℕ, _+_, _*_, _/_, _<_, _≤_, _^_, min}
-use native.Mathlib.Nat.{div-lt-iff-lt-mul, le-div-iff-mul-le, mul-le-mul-right}
+use native.Mathlib.Nat.{div-lt-iff-lt-mul, le-div-iff-mul-le, mul-le-mul-right, div-one, min-eq-left}
 use native.Mathlib.Omega.{arith}
 use borrow.Author.Tests.{ltb-true, ltb-false}
 use lib.Dec.{T, ltb, lt→ltb}
-use lib.IntN.{pos, negsuc}
+use lib.IntN.{pos, negsuc, negℤ}
 use lib.Ieee.{Float, nan, inf, fin, up, down, lt, le, eq, ne, toSigned}
+use lib.Ieee.Exact.{HasValue}
 use lib.Ieee.Fits.{down-pos}
 use lib.Ieee.Compare.{differs-from-itself}
-use Rattle.floats.proofs.Tests.{or-l}
+use Rattle.floats.proofs.Tests.{one, or-l}
+use Rattle.floats.proofs.Values.{toSigned-at}
 
 under : (a d n : ℕ) → 0 < d → ltb (a * 1) (n * d) ≡ true → a / d < n
 under a d n p h = let k = ltb-true (a * 1) (n * d) h in div-lt-iff-lt-mul p .1 (omega arith)
@@ -81,3 +83,8 @@ below-i32 (fin true m e) p q =
 pub nan-to-zero : (x : Float) → ne x x ≡ true → toSigned 31 x ≡ pos 0
 unfolding toSigned
 nan-to-zero x p = rw (differs-from-itself x (subst T (sym p) tt))
+
+-- a whole number from −2^31 to −0.0 is cast to itself
+pub whole-to-i32 : (x : Float) (n : ℕ) → n ≤ 2 ^ 31 → HasValue x true n 1 → toSigned 31 x ≡ negℤ (pos n)
+whole-to-i32 x n h v =
+    toSigned-at 31 x true n 1 one v ∙ ap (λ (k : ℕ). negℤ (pos k)) (ap (λ (k : ℕ). min k (2 ^ 31)) (div-one n) ∙ min-eq-left h)

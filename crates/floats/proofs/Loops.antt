@@ -12,25 +12,25 @@ module _ {S : Type 0} (turn : ℕ → S → Turn S) where
   stopped (suc n) k s = refl
 
   -- the turn with k
-  turned : (end k : ℕ) (s w : S) (b : Bool) → k < end → turn k s .0 ≡ b → countUp turn (end - k) k (false, s) ≡ w
+  turned : (end k : ℕ) (s w : S) (b : Bool) → countUp turn (end - k) k (false, s) ≡ w → k < end → turn k s .0 ≡ b
       → countUp turn (end - (k + 1)) (k + 1) (b, turn k s .1) ≡ w
   unfolding countUp
-  turned end k s w b h t i =
+  turned end k s w b i h t =
       let left : end - k ≡ suc (end - (k + 1)) = omega arith in
       ap (λ (c : Bool). countUp turn (end - (k + 1)) (k + 1) (c, turn k s .1)) (sym t) ∙ ap (λ (n : ℕ). countUp turn n k (false, s)) (sym left) ∙ i
 
   -- it goes on
-  pub goes : (end k : ℕ) (s w : S) → k < end → turn k s .0 ≡ false → countUp turn (end - k) k (false, s) ≡ w
+  pub goes : (end k : ℕ) (s w : S) → countUp turn (end - k) k (false, s) ≡ w → k < end → turn k s .0 ≡ false
       → countUp turn (end - (k + 1)) (k + 1) (false, turn k s .1) ≡ w
-  goes end k s w h t i = turned end k s w false h t i
+  goes end k s w i h t = turned end k s w false i h t
 
   -- it stops
-  pub stops : (end k : ℕ) (s w : S) → k < end → turn k s .0 ≡ true → countUp turn (end - k) k (false, s) ≡ w → turn k s .1 ≡ w
-  stops end k s w h t i = sym (stopped (end - (k + 1)) (k + 1) (turn k s .1)) ∙ turned end k s w true h t i
+  pub stops : (end k : ℕ) (s w : S) → countUp turn (end - k) k (false, s) ≡ w → k < end → turn k s .0 ≡ true → turn k s .1 ≡ w
+  stops end k s w i h t = sym (stopped (end - (k + 1)) (k + 1) (turn k s .1)) ∙ turned end k s w true i h t
 
   -- no turn is left
-  pub done : (end k : ℕ) (s w : S) → end ≤ k → countUp turn (end - k) k (false, s) ≡ w → s ≡ w
+  pub done : (end k : ℕ) (s w : S) → countUp turn (end - k) k (false, s) ≡ w → end ≤ k → s ≡ w
   unfolding countUp
-  done end k s w h i =
+  done end k s w i h =
       let left : end - k ≡ 0 = omega arith in
       ap (λ (n : ℕ). countUp turn n k (false, s)) (sym left) ∙ i

@@ -23,22 +23,6 @@ fn bits_of_x(name: &str) -> HashSet<u64> {
 }
 
 #[test]
-fn numbers_and_names() {
-    let functions: Vec<_> = FUNCTIONS.iter().map(|f| (f.number, f.name)).collect();
-    let expected = [
-        (11, "exp"),
-        (12, "exp2"),
-        (13, "exp_m1"),
-        (14, "ln"),
-        (15, "pow"),
-        (16, "sin"),
-        (17, "cos"),
-        (18, "square_root"),
-    ];
-    assert_eq!(functions, expected);
-}
-
-#[test]
 fn given_edges_are_among_the_inputs() {
     let rows: [(&str, &[f64]); 7] = [
         (

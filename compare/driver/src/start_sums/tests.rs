@@ -31,19 +31,6 @@ fn is_whole(x: f64) -> bool {
 }
 
 #[test]
-fn numbers_and_names() {
-    let functions: Vec<_> = FUNCTIONS.iter().map(|f| (f.number, f.name)).collect();
-    let expected = [
-        (19, "gamma2"),
-        (20, "dvsa"),
-        (21, "dvla"),
-        (22, "vvsa"),
-        (23, "vvla"),
-    ];
-    assert_eq!(functions, expected);
-}
-
-#[test]
 fn given_arguments_of_gamma2_are_among_the_inputs() {
     let bits = bits(&FUNCTIONS[0]);
     let sizes = [

@@ -26,14 +26,15 @@ falling-spec =
     (λ c κs. tt)
     (λ c.
     let i = c .before in
-    stops (productTurn _) _ _ _ _ (omega arith) (rw (i .is-infinite .ensures) at (c .if1 .taken)) (i .before .before .before .loop .inv))
+    stops (productTurn _) _ _ _ _ (i .before .before .before .loop .inv) (omega arith) (rw (i .is-infinite .ensures) at (c .if1 .taken)))
     (λ c. omega arith)
     (λ c. omega arith)
     (λ c.
     let i = c .before .before in
-    goes (productTurn _) _ _ _ _ (omega arith) (rw (i .is-infinite .ensures) at (c .before .if1 .left)) (i .before .before .before .loop .inv))
-    (λ c. done (productTurn _) _ _ _ _ (omega arith) (c .before .loop .inv))
+    goes (productTurn _) _ _ _ _ (i .before .before .before .loop .inv) (omega arith) (rw (i .is-infinite .ensures) at (c .before .if1 .left)))
+    (λ c. done (productTurn _) _ _ _ _ (c .before .loop .inv) (omega arith))
     (λ c.
     let i = c .before .before in
-    done (productTurn _) _ _ _ _ (omega arith)
-    (goes (productTurn _) _ _ _ _ (omega arith) (rw (i .is-infinite .ensures) at (c .before .if1 .left)) (i .before .before .before .loop .inv))))
+    done (productTurn _) _ _ _ _
+    (goes (productTurn _) _ _ _ _ (i .before .before .before .loop .inv) (omega arith) (rw (i .is-infinite .ensures) at (c .before .if1 .left)))
+    (omega arith)))

@@ -30,15 +30,13 @@ dvsa-sum-spec =
     let g = c .before .before .before in
     rw (g .gamma2 .ensures)
     (ap (λ (s : Float × Float). s .1)
-    (stops (dvsaTurn _ _) _ _ _ _ (omega arith)
-    (rw (c .before .before .abs .ensures, c .before .abs2 .ensures, g .gamma2 .ensures) at (c .if1 .taken))
-    (g .before .before .before .loop .inv))))
+    (stops (dvsaTurn _ _) _ _ _ _ (g .before .before .before .loop .inv) (omega arith)
+    (rw (c .before .before .abs .ensures, c .before .abs2 .ensures, g .gamma2 .ensures) at (c .if1 .taken)))))
     (λ c. omega arith)
     (λ c. omega arith)
     (λ c.
     let g = c .before .before .before in
     rw (g .gamma2 .ensures)
-    (goes (dvsaTurn _ _) _ _ _ _ (omega arith)
-    (rw (c .before .before .abs .ensures, c .before .abs2 .ensures, g .gamma2 .ensures) at (c .if1 .left))
-    (g .before .before .before .loop .inv)))
-    (λ c. ap (λ (s : Float × Float). s .1) (done (dvsaTurn _ _) _ _ _ _ (omega arith) (c .before .loop .inv))))
+    (goes (dvsaTurn _ _) _ _ _ _ (g .before .before .before .loop .inv) (omega arith)
+    (rw (c .before .before .abs .ensures, c .before .abs2 .ensures, g .gamma2 .ensures) at (c .if1 .left))))
+    (λ c. ap (λ (s : Float × Float). s .1) (done (dvsaTurn _ _) _ _ _ _ (c .before .loop .inv) (omega arith))))

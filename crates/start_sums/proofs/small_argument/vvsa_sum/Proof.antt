@@ -29,11 +29,11 @@ vvsa-sum-spec =
     let g = c .before .before in
     rw (g .gamma2 .ensures)
     (ap (λ (s : Float × Float × Float). s .2)
-    (stops (vvsaTurn _ _ _) _ _ _ _ (omega arith) (rw (c .before .abs .ensures, g .gamma2 .ensures) at (c .if1 .taken)) (g .before .before .before .loop .inv))))
+    (stops (vvsaTurn _ _ _) _ _ _ _ (g .before .before .before .loop .inv) (omega arith) (rw (c .before .abs .ensures, g .gamma2 .ensures) at (c .if1 .taken)))))
     (λ c. omega arith)
     (λ c. omega arith)
     (λ c.
     let g = c .before .before in
     rw (g .gamma2 .ensures)
-    (goes (vvsaTurn _ _ _) _ _ _ _ (omega arith) (rw (c .before .abs .ensures, g .gamma2 .ensures) at (c .if1 .left)) (g .before .before .before .loop .inv)))
-    (λ c. ap (λ (s : Float × Float × Float). s .2) (done (vvsaTurn _ _ _) _ _ _ _ (omega arith) (c .before .loop .inv))))
+    (goes (vvsaTurn _ _ _) _ _ _ _ (g .before .before .before .loop .inv) (omega arith) (rw (c .before .abs .ensures, g .gamma2 .ensures) at (c .if1 .left))))
+    (λ c. ap (λ (s : Float × Float × Float). s .2) (done (vvsaTurn _ _ _) _ _ _ _ (c .before .loop .inv) (omega arith))))

@@ -5,6 +5,7 @@ use std::time::{Duration, Instant};
 
 use crate::functions::{Function, Pair, Sides};
 use crate::inputs::{Draw, Input};
+use crate::tables::{Call, needed};
 
 const INPUTS: usize = 4096;
 /// A round takes at least about this long.
@@ -12,29 +13,46 @@ const ROUND: Duration = Duration::from_millis(4);
 const ROUNDS: usize = 25;
 const SEED: u64 = 1;
 
-/// Prints the times of each function, over many inputs and at its points.
-pub fn run<'a>(functions: impl Iterator<Item = &'a Function>) {
+/// Prints the times of each function, over many inputs and at its points, and of each table call
+/// at its points.
+pub fn run<'a>(functions: impl Iterator<Item = &'a Function>, calls: &[Call]) {
     println!("ns per call, best of {ROUNDS} rounds: library, Rust, ratio");
     for function in functions {
         let name = function.name;
-        print_times(name, function, &ordinary_inputs(function));
+        print_times(name, times(function, &ordinary_inputs(function)));
         for &(x, y) in points(function) {
-            print_times(&format!("{name}({x}, {y})"), function, &[(x, y)]);
+            print_times(&format!("{name}({x}, {y})"), times(function, &[(x, y)]));
+        }
+    }
+    for call in calls {
+        for &(v, x) in call.points {
+            print_times(&format!("{}({v}, {x})", call.name), table_times(call, v, x));
         }
     }
 }
 
+fn print_times(name: &str, (library, reference): (f64, f64)) {
+    let ratio = library / reference;
+    println!("{name}: {library:.2}, {reference:.2}, {ratio:.2}");
+}
+
 /// Both sides are called through a pointer.
-fn print_times(name: &str, function: &Function, inputs: &[Input]) {
-    let (library, reference) = match &function.sides {
+fn times(function: &Function, inputs: &[Input]) -> (f64, f64) {
+    match &function.sides {
         Sides::Number(f) => best(inputs, f, |f, x, _| f(x)),
         Sides::NumberOfTwo(f) => best(inputs, f, |f, x, y| f(x, y)),
         Sides::Truth(f) => best(inputs, f, |f, x, _| f(x)),
         Sides::TruthOfTwo(f) => best(inputs, f, |f, x, y| f(x, y)),
         Sides::Whole(f) => best(inputs, f, |f, x, _| f(x)),
-    };
-    let ratio = library / reference;
-    println!("{name}: {library:.2}, {reference:.2}, {ratio:.2}");
+    }
+}
+
+/// Both sides fill the same table, which is there before the time is taken.
+fn table_times(call: &Call, v: f64, x: f64) -> (f64, f64) {
+    let mut table = vec![0.0; needed(v)];
+    best(&[(v, x)], &Call::SIDES, |side, v, x| {
+        side(call, v, x, &mut table)
+    })
 }
 
 fn points(function: &Function) -> &'static [Input] {
@@ -58,9 +76,9 @@ fn ordinary_inputs(function: &Function) -> Vec<Input> {
 fn best<F: Copy, A>(
     inputs: &[Input],
     pair: &Pair<F>,
-    call: impl Fn(F, f64, f64) -> A,
+    mut call: impl FnMut(F, f64, f64) -> A,
 ) -> (f64, f64) {
-    let round = |function: F, passes: usize| {
+    let mut round = |function: F, passes: usize| {
         let function = black_box(function);
         let start = Instant::now();
         for _ in 0..passes {
@@ -74,7 +92,7 @@ fn best<F: Copy, A>(
     while (0..3).any(|_| round(pair.reference, passes) < ROUND) {
         passes *= 2;
     }
-    let time =
+    let mut time =
         |function| round(function, passes).as_nanos() as f64 / (passes * inputs.len()) as f64;
     let (mut library, mut reference) = (f64::INFINITY, f64::INFINITY);
     for _ in 0..ROUNDS {
@@ -90,7 +108,7 @@ mod tests {
 
     use super::{INPUTS, ROUNDS, best, ordinary_inputs, points};
     use crate::functions::Pair;
-    use crate::{CRATES, start_sums};
+    use crate::{CRATES, start_sums, tables};
 
     #[test]
     fn answers_at_the_inputs_are_finite_and_not_zero() {
@@ -118,6 +136,26 @@ mod tests {
             ("dvsa", 1.0, -51.5),
             ("dvla", -12.0, 4.25),
             ("vvsa", 3.0, 0.25),
+        ];
+        assert_eq!(all, expected);
+    }
+
+    #[test]
+    fn known_points_of_the_tables() {
+        let mut all = vec![];
+        for call in &tables::CALLS {
+            all.extend(call.points.iter().map(|&(v, x)| (call.name, v, x)));
+        }
+        let expected = [
+            ("d_table", 100.3, 2.0),
+            ("d_table", 900.3, -3.0),
+            ("d_table", 40.0, 7.0),
+            ("d_table", -100.3, 3.0),
+            ("d_table", -50.5, 1.0),
+            ("v_table", 50.3, 5.0),
+            ("v_table", 50.3, 20.0),
+            ("v_table", -50.3, 3.0),
+            ("v_table", -900.0, 1.0),
         ];
         assert_eq!(all, expected);
     }

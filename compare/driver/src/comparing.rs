@@ -52,14 +52,32 @@ impl Comparable for u8 {
 }
 
 /// What was compared so far.
-#[derive(Default)]
 pub struct Tally {
+    /// What is compared, and at what, in the lines printed.
+    words: [&'static str; 2],
     functions: usize,
     inputs: usize,
     differences: usize,
 }
 
 impl Tally {
+    pub fn of_functions() -> Self {
+        Self::new(["functions", "inputs"])
+    }
+
+    pub fn of_calls() -> Self {
+        Self::new(["calls", "requests"])
+    }
+
+    fn new(words: [&'static str; 2]) -> Self {
+        Tally {
+            words,
+            functions: 0,
+            inputs: 0,
+            differences: 0,
+        }
+    }
+
     /// Compares one function over `inputs` and prints its line.
     pub fn compare<I: Comparable, A: Comparable>(
         &mut self,
@@ -68,19 +86,34 @@ impl Tally {
         library: impl Fn(&I) -> A,
         reference: impl Fn(&I) -> A,
     ) {
+        self.count(name, inputs, |input| {
+            let (ours, rust) = (library(input), reference(input));
+            let sides = || format!("library {}, Rust {}", ours.show(), rust.show());
+            (!ours.alike(&rust)).then(|| (input.show(), sides()))
+        });
+    }
+
+    /// Counts the inputs at which there is a difference, and prints the line of what is compared.
+    /// A difference is the input and both sides as text.
+    pub fn count<I>(
+        &mut self,
+        name: &str,
+        inputs: impl Iterator<Item = I>,
+        difference: impl Fn(&I) -> Option<(String, String)>,
+    ) {
         let (mut count, mut differences) = (0, 0);
         for input in inputs {
             count += 1;
-            let (ours, rust) = (library(&input), reference(&input));
-            if !ours.alike(&rust) {
+            if let Some((input, sides)) = difference(&input) {
                 differences += 1;
                 if differences <= SHOWN {
-                    println!("{name} differs at {}:", input.show());
-                    println!("  library {}, Rust {}", ours.show(), rust.show());
+                    println!("{name} differs at {input}:");
+                    println!("  {sides}");
                 }
             }
         }
-        println!("{name}: {count} inputs, {differences} differences");
+        let inputs = self.words[1];
+        println!("{name}: {count} {inputs}, {differences} differences");
         self.functions += 1;
         self.inputs += count;
         self.differences += differences;
@@ -88,11 +121,16 @@ impl Tally {
 
     /// Prints the line of a library crate, and gives whether there was no difference.
     pub fn finish(&self, name: &str) -> bool {
-        println!(
-            "{name}: {} functions, {} inputs, {} differences",
-            self.functions, self.inputs, self.differences
-        );
+        println!("{name}: {}", self.line());
         self.differences == 0
+    }
+
+    fn line(&self) -> String {
+        let [functions, inputs] = self.words;
+        format!(
+            "{} {functions}, {} {inputs}, {} differences",
+            self.functions, self.inputs, self.differences
+        )
     }
 }
 
@@ -111,15 +149,23 @@ mod tests {
 
     #[test]
     fn differences_are_counted() {
-        let mut tally = Tally::default();
+        let mut tally = Tally::of_functions();
         let inputs = || [0.0, -0.0, 1.0, -2.0].into_iter();
         tally.compare("abs", inputs(), |x| x.abs(), |x| x.abs());
         assert!(tally.finish("none differ"));
         tally.compare("abs", inputs(), |&x| x, |x| x.abs());
         assert!(!tally.finish("two differ"));
-        assert_eq!(
-            (tally.functions, tally.inputs, tally.differences),
-            (2, 8, 2)
-        );
+        assert_eq!(tally.line(), "2 functions, 8 inputs, 2 differences");
+    }
+
+    #[test]
+    fn calls_are_counted() {
+        let mut tally = Tally::of_calls();
+        tally.count("none", 0..3, |_| None);
+        assert!(tally.finish("none differ"));
+        let odd = |i: &i32| (i % 2 == 1).then(|| (i.to_string(), "odd".into()));
+        tally.count("odd", 0..13, odd);
+        assert!(!tally.finish("six differ"));
+        assert_eq!(tally.line(), "2 calls, 16 requests, 6 differences");
     }
 }

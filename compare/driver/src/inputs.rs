@@ -46,7 +46,7 @@ const EDGES: [f64; 76] = [
 ];
 
 /// NaNs of both signs, quiet and signalling.
-const NANS: [u64; 4] = [
+pub const NANS: [u64; 4] = [
     0x7ff8_0000_0000_0000,
     0xfff8_0000_0000_0001,
     0x7ff0_0000_0000_0001,
@@ -95,6 +95,16 @@ pub fn around(x: f64, distance: usize) -> Vec<f64> {
         numbers.extend([up, down]);
     }
     numbers
+}
+
+/// Numbers with the floats next to them, and `others` without.
+pub fn with_next(numbers: &[f64], others: &[f64]) -> Vec<f64> {
+    let next = numbers.iter().flat_map(|&x| around(x, 1));
+    next.chain(others.iter().copied()).collect()
+}
+
+pub fn both_signs(sizes: &[f64]) -> Vec<f64> {
+    sizes.iter().flat_map(|&size| [size, -size]).collect()
 }
 
 /// Each number and the two floats on either side of it, as inputs of a function of one number.
@@ -153,6 +163,14 @@ pub fn drawn(two: bool, own: Option<OwnInputs>, seed: u64) -> impl Iterator<Item
     })
 }
 
+/// What splitmix64 makes of a state.
+pub fn mixed(state: u64) -> u64 {
+    let mut bits = state;
+    bits = (bits ^ (bits >> 30)).wrapping_mul(0xbf58_476d_1ce4_e5b9);
+    bits = (bits ^ (bits >> 27)).wrapping_mul(0x94d0_49bb_1331_11eb);
+    bits ^ (bits >> 31)
+}
+
 /// Draws inputs from a seed, with the generator splitmix64.
 pub struct Draw {
     state: u64,
@@ -167,10 +185,7 @@ impl Draw {
 
     pub fn bits(&mut self) -> u64 {
         self.state = self.state.wrapping_add(0x9e37_79b9_7f4a_7c15);
-        let mut bits = self.state;
-        bits = (bits ^ (bits >> 30)).wrapping_mul(0xbf58_476d_1ce4_e5b9);
-        bits = (bits ^ (bits >> 27)).wrapping_mul(0x94d0_49bb_1331_11eb);
-        bits ^ (bits >> 31)
+        mixed(self.state)
     }
 
     pub fn below(&mut self, limit: usize) -> usize {
@@ -181,6 +196,12 @@ impl Draw {
     pub fn uniform(&mut self, size: f64) -> f64 {
         let unit = (self.bits() >> 11) as f64 / 9007199254740992.0;
         (2.0 * unit - 1.0) * size
+    }
+
+    /// Of a size between `from` and `to`, of either sign.
+    pub fn beyond(&mut self, from: f64, to: f64) -> f64 {
+        let x = self.uniform(to - from);
+        x + from.copysign(x)
     }
 
     /// At most `distance` away from a half-whole number of about this size.
@@ -206,8 +227,18 @@ impl Draw {
         f64::from_bits(bits.wrapping_sub(4))
     }
 
+    /// At most four floats away from a whole number below `size`.
+    pub fn close_to_whole(&mut self, size: f64) -> f64 {
+        let whole = self.uniform(size).trunc();
+        self.close(whole)
+    }
+
+    pub fn zero(&mut self) -> f64 {
+        [0.0, -0.0][self.below(2)]
+    }
+
     /// Half of them edge inputs or their neighbours, the others random.
-    fn number(&mut self) -> f64 {
+    pub fn number(&mut self) -> f64 {
         match self.below(16) {
             0..8 => {
                 let edge = self.below(self.edges.len());

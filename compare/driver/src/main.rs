@@ -9,6 +9,7 @@ mod functions;
 mod inputs;
 mod start_sums;
 mod store;
+mod tables;
 
 use std::num::NonZeroUsize;
 use std::path::Path;
@@ -16,6 +17,7 @@ use std::process::ExitCode;
 
 use comparing::Tally;
 use functions::Function;
+use store::Record;
 
 /// The library crates by name, with their functions.
 const CRATES: [(&str, &[Function]); 3] = [
@@ -26,8 +28,8 @@ const CRATES: [(&str, &[Function]); 3] = [
 
 const USAGE: &str = "\
 arguments: compare COUNT SEED | entries | store FOLDER | bench
-  COUNT   inputs for each function, a whole number above 0
-  SEED    of the random inputs, a whole number below 2^64
+  COUNT   inputs for each function and requests for each table call, a whole number above 0
+  SEED    of the random inputs and requests, a whole number below 2^64
   FOLDER  where the files of stored answers go";
 
 fn main() -> ExitCode {
@@ -41,7 +43,8 @@ fn main() -> ExitCode {
         ["entries"] => entries::run(),
         ["store", folder] => store_all(Path::new(folder)),
         ["bench"] => {
-            bench::run(CRATES.iter().flat_map(|(_, functions)| *functions));
+            let functions = CRATES.iter().flat_map(|(_, functions)| *functions);
+            bench::run(functions, &tables::CALLS);
             true
         }
         _ => return usage(),
@@ -54,27 +57,37 @@ fn usage() -> ExitCode {
     ExitCode::from(2)
 }
 
-/// Compares every library crate. Gives whether there was no difference.
+/// Compares every library crate and the table calls. Gives whether there was no difference.
 fn compare(count: usize, seed: u64) -> bool {
     let mut right = true;
     for (name, functions) in CRATES {
-        let mut tally = Tally::default();
+        let mut tally = Tally::of_functions();
         for function in functions {
             function.compare(&mut tally, count, seed);
         }
         right &= tally.finish(name);
     }
-    right
+    let mut tally = Tally::of_calls();
+    for call in &tables::CALLS {
+        call.compare(&mut tally, count, seed);
+    }
+    right & tally.finish("tables")
 }
 
 /// Writes every file of stored answers. Gives whether all were written.
 fn store_all(folder: &Path) -> bool {
     let mut right = true;
     for (name, functions) in CRATES {
-        if let Err(error) = store::write(folder, &format!("{name}.bin"), functions) {
-            eprintln!("{}: {error}", folder.display());
-            right = false;
-        }
+        right &= store_file(folder, name, &store::all_records(functions));
     }
-    right
+    right & store_file(folder, "tables", &tables::stored::all_records())
+}
+
+/// Writes a file of stored answers. Gives whether it was written.
+fn store_file(folder: &Path, name: &str, records: &[Record]) -> bool {
+    let result = store::write(folder, &format!("{name}.bin"), records);
+    if let Err(error) = &result {
+        eprintln!("{}: {error}", folder.display());
+    }
+    result.is_ok()
 }

@@ -6,6 +6,7 @@ mod terms;
 mod tests;
 
 use crate::functions::{Function, Pair, Sides, function};
+pub use own::{SQUARE_INFINITE, SQUARES};
 
 /// The library's functions.
 mod library {

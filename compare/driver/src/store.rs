@@ -14,15 +14,17 @@ const EDGES: usize = 300;
 const EDGES_IN_PAIRS: usize = 17;
 /// As many where the function has edge inputs of its own: about half of `EDGES` are left for them.
 const EDGES_IN_PAIRS_BESIDE_OWN: usize = 12;
-const SEED: u64 = 1;
+pub const SEED: u64 = 1;
 const NAN: u64 = 0x7ff8_0000_0000_0000;
 
-/// Writes the records of `functions` to the file `name` in `folder`.
+/// Four words: a number, the bits of two inputs and of the answer.
+pub type Record = [u64; 4];
+
+/// Writes the records to the file `name` in `folder`.
 ///
 /// # Errors
 /// If the folder cannot be made or the file not written.
-pub fn write(folder: &Path, name: &str, functions: &[Function]) -> Result<(), Error> {
-    let records: Vec<[u64; 4]> = functions.iter().flat_map(records).collect();
+pub fn write(folder: &Path, name: &str, records: &[Record]) -> Result<(), Error> {
     let words = records.as_flattened().iter();
     let bytes: Vec<u8> = words.flat_map(|word| word.to_le_bytes()).collect();
     fs::create_dir_all(folder)?;
@@ -32,15 +34,24 @@ pub fn write(folder: &Path, name: &str, functions: &[Function]) -> Result<(), Er
     Ok(())
 }
 
+/// The bits of an answer, the same for every NaN.
+pub fn answer_bits(answer: f64) -> u64 {
+    if answer.is_nan() {
+        NAN
+    } else {
+        answer.to_bits()
+    }
+}
+
+/// The records of all functions, one after another.
+pub fn all_records(functions: &[Function]) -> Vec<Record> {
+    functions.iter().flat_map(records).collect()
+}
+
 /// The function's number, the bits of x, of y (0 for a function of one number) and of the answer.
-fn records(function: &Function) -> Vec<[u64; 4]> {
+fn records(function: &Function) -> Vec<Record> {
     let record = |(x, y): Input| {
-        let answer = function.reference(x, y);
-        let answer = if answer.is_nan() {
-            NAN
-        } else {
-            answer.to_bits()
-        };
+        let answer = answer_bits(function.reference(x, y));
         [function.number, x.to_bits(), y.to_bits(), answer]
     };
     inputs(function).into_iter().map(record).collect()
@@ -51,7 +62,7 @@ fn inputs(function: &Function) -> Vec<Input> {
     let seed = function.seed(SEED);
     let drawn = inputs::drawn(function.takes_two(), function.own, seed);
     let mut inputs = edges(function);
-    add_new(&mut inputs, drawn, RECORDS);
+    add_new(&mut inputs, drawn, RECORDS, bits);
     inputs
 }
 
@@ -66,16 +77,21 @@ fn edges(function: &Function) -> Vec<Input> {
     };
     let mut edges = sampled(&all, EDGES);
     if let Some(own) = function.own {
-        add_new(&mut edges, (own.limits)(), EDGES);
+        add_new(&mut edges, (own.limits)(), EDGES, bits);
         let left = EDGES - edges.len();
-        add_new(&mut edges, sampled(&(own.edges)(), left), EDGES);
+        add_new(&mut edges, sampled(&(own.edges)(), left), EDGES, bits);
     }
     edges
 }
 
-/// Adds those of `more` that are not there yet, until there are `limit`.
-fn add_new(inputs: &mut Vec<Input>, more: impl IntoIterator<Item = Input>, limit: usize) {
-    let bits = |(x, y): Input| (x.to_bits(), y.to_bits());
+/// Adds those of `more` that are not there yet, until there are `limit`. Two of the same `bits` are
+/// the same.
+pub fn add_new<T: Copy, B: PartialEq>(
+    inputs: &mut Vec<T>,
+    more: impl IntoIterator<Item = T>,
+    limit: usize,
+    bits: impl Fn(T) -> B,
+) {
     for new in more {
         if inputs.len() == limit {
             break;
@@ -86,15 +102,19 @@ fn add_new(inputs: &mut Vec<Input>, more: impl IntoIterator<Item = Input>, limit
     }
 }
 
+fn bits((x, y): Input) -> (u64, u64) {
+    (x.to_bits(), y.to_bits())
+}
+
 /// At most `many` of `all`, evenly spread.
-fn sampled<T: Copy>(all: &[T], many: usize) -> Vec<T> {
+pub fn sampled<T: Copy>(all: &[T], many: usize) -> Vec<T> {
     let many = many.min(all.len());
     (0..many).map(|i| all[i * all.len() / many]).collect()
 }
 
 #[cfg(test)]
 mod tests {
-    use super::{RECORDS, inputs, records, sampled};
+    use super::{RECORDS, Record, inputs, records, sampled};
     use crate::floats::FUNCTIONS;
     use crate::functions::Function;
     use crate::inputs::edges;
@@ -132,13 +152,13 @@ mod tests {
             let stored = records(function);
             let own = function.own.expect("it has inputs of its own");
             for (x, y) in (own.limits)() {
-                let same = |record: &[u64; 4]| record[1..3] == [x.to_bits(), y.to_bits()];
+                let same = |record: &Record| record[1..3] == [x.to_bits(), y.to_bits()];
                 assert!(stored.iter().any(same), "{} {x:?} {y:?}", function.name);
             }
         }
     }
 
-    fn has(functions: &[Function], function: usize, record: [u64; 4]) {
+    fn has(functions: &[Function], function: usize, record: Record) {
         assert!(
             records(&functions[function]).contains(&record),
             "{record:x?}"

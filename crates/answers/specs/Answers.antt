@@ -11,10 +11,12 @@ use Rattle.answers.specs.Words.{wordAt}
 use Rattle.answers.specs.Floats.{floatsAnswer}
 use Rattle.answers.specs.Elementary.{elementaryAnswer}
 use Rattle.answers.specs.StartSums.{startSumsAnswer}
+use Rattle.answers.specs.Tables.{tablesAnswer}
 
--- function n at x and y: the numbers up to 10 are those of `floats`, those up to 18 of `elementary`
+-- number n at x and y: those up to 10 are the functions of `floats`, those up to 18 of `elementary`, those up to 23 of `start_sums`, and the rest the
+-- table calls
 unfoldable pub answer : ℕ → Float → Float → Float
-answer n x y = cond (leb n 10) (floatsAnswer n x y) (cond (leb n 18) (elementaryAnswer n x y) (startSumsAnswer n x y))
+answer n x y = cond (leb n 10) (floatsAnswer n x y) (cond (leb n 18) (elementaryAnswer n x y) (cond (leb n 23) (startSumsAnswer n x y) (tablesAnswer n x y)))
 
 -- whether the function of a record answers what the record holds
 unfoldable pub held : List ℕ → Bool

@@ -2,4 +2,5 @@ pub mod Words
 pub mod Floats
 pub mod Elementary
 pub mod StartSums
+pub mod Tables
 pub mod Answers

@@ -7,8 +7,9 @@ use crate::floats_answer;
 use crate::record::number;
 use crate::record::word;
 use crate::start_sums_answer;
+use crate::tables_answer;
 
-// Function n at x and y.
+// Number n at x and y.
 fn answer_of(n: u64, x: f64, y: f64) -> f64
     ensures { λ r. ⌜ r ≡ answer n x y ⌝ }
 {
@@ -18,7 +19,10 @@ fn answer_of(n: u64, x: f64, y: f64) -> f64
     if n <= 18 {
         return elementary_answer::answer_of(n, x, y);
     }
-    start_sums_answer::answer_of(n, x, y)
+    if n <= 23 {
+        return start_sums_answer::answer_of(n, x, y);
+    }
+    tables_answer::answer_of(n, x, y)
 }
 
 // Whether the function of a record answers what the record holds.

@@ -5,6 +5,7 @@ mod elementary_answer;
 mod floats_answer;
 mod record;
 mod start_sums_answer;
+mod tables_answer;
 
 ghost use mathlib.Core.Path.{_≡_};
 ghost use Prim.Native.Nat.{_+_, _/_};
@@ -94,4 +95,5 @@ fn main() {
     report(b"floats.bin", b"floats");
     report(b"elementary.bin", b"elementary");
     report(b"start_sums.bin", b"start_sums");
+    report(b"tables.bin", b"tables");
 }

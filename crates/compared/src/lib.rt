@@ -1,5 +1,7 @@
 // The functions that compare/ holds to the Rust, each under a C name of its own. Each only calls the function that it is named after.
 
+mod table_calls;
+
 ghost use mathlib.Core.Path.{_≡_};
 ghost use lib.Ieee.{isNan, toSigned};
 ghost use Rattle.floats.specs.Functions.{alike, absolute, infinite, truncated, fraction, lesser, greater, signOf};

@@ -1,12 +1,13 @@
 -- A float as an i32: within the range it is what it is as an i64, and beyond an end of the range it is that end. Assumes nothing.
 use mathlib.Core.Path.{_≡_, refl, sym, subst, ap, _∙_}
-use mathlib.Core.Bool.{true, false}
+use mathlib.Core.Bool.{true, false, true≢false}
 use Prim.Native.Nat.{ℕ, _+_, _*_, _/_, _<_, _≤_, _^_, min}
 use native.Mathlib.Nat.{div-lt-iff-lt-mul, le-div-iff-mul-le, mul-le-mul-right, div-one, min-eq-left}
 use native.Mathlib.Omega.{arith}
 use borrow.Author.Tests.{ltb-true, ltb-false}
 use lib.Dec.{T, ltb, lt→ltb}
-use lib.IntN.{pos, negsuc, negℤ}
+use lib.IntN.{ℤ, pos, negsuc, negℤ}
+use lib.Signed.{ltZ, nonNeg}
 use lib.Ieee.{Float, nan, inf, fin, up, down, lt, le, eq, ne, toSigned}
 use lib.Ieee.Exact.{HasValue}
 use lib.Ieee.Fits.{down-pos}
@@ -88,3 +89,8 @@ nan-to-zero x p = rw (differs-from-itself x (subst T (sym p) tt))
 pub whole-to-i32 : (x : Float) (n : ℕ) → n ≤ 2 ^ 31 → HasValue x true n 1 → toSigned 31 x ≡ negℤ (pos n)
 whole-to-i32 x n h v =
     toSigned-at 31 x true n 1 one v ∙ ap (λ (k : ℕ). negℤ (pos k)) (ap (λ (k : ℕ). min k (2 ^ 31)) (div-one n) ∙ min-eq-left h)
+
+-- an integer that is not below 0 can be cast to an unsigned one
+pub from-zero : (m : ℤ) → ltZ m (pos 0) ≡ false → T (nonNeg m)
+from-zero (pos n) h = tt
+from-zero (negsuc n) h = absurd (true≢false h)

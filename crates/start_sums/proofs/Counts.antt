@@ -1,6 +1,6 @@
 -- What ends the loops and the calls: the end of a loop that counts up to an i32, and the falling number of the cycle of calls. Assumes nothing.
 use mathlib.Core.Path.{_≡_, refl, subst}
-use mathlib.Core.Bool.{true, false, true≢false}
+use mathlib.Core.Bool.{true}
 use Prim.Native.Nat.{ℕ, _<_}
 use native.Mathlib.Omega.{arith}
 use borrow.Author.Tests.{ltb-true}
@@ -15,10 +15,6 @@ use Rattle.start_sums.specs.StartSums.{lastOf, fallingNumber}
 pub last-below-zero : (m : ℤ) → ltZ m (pos 0) ≡ true → 0 ≡ lastOf m
 last-below-zero (pos n) h = let l : n < 0 = ltb-true n 0 h in absurd (omega arith)
 last-below-zero (negsuc n) h = refl
-
-pub from-zero : (m : ℤ) → ltZ m (pos 0) ≡ false → T (nonNeg m)
-from-zero (pos n) h = tt
-from-zero (negsuc n) h = absurd (true≢false h)
 
 pub last-from-zero : (m : ℤ) → T (nonNeg m) → natAbs m ≡ lastOf m
 last-from-zero (pos n) h = refl

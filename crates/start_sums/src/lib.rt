@@ -1,6 +1,6 @@
 // Gamma and the start sums of D and V: what the bottom rungs of every table come from. Each function answers every f64.
 
-mod constants;
+pub mod constants;
 mod gamma;
 mod large_argument;
 mod small_argument;

@@ -4,7 +4,9 @@ use std::f64::consts::PI;
 use std::sync::LazyLock;
 
 use super::terms::{self, Sum};
-use crate::inputs::{Draw, Input, OwnInputs, around, close_to, halves, pairs};
+use crate::inputs::{
+    Draw, Input, OwnInputs, around, both_signs, close_to, halves, pairs, with_next,
+};
 
 /// 2^30/π: from this size on the sine and the cosine of π·x are NaN.
 pub const SINE_LIMIT: f64 = 1073741824.0 / PI;
@@ -43,7 +45,7 @@ pub const GAMMA2: OwnInputs = OwnInputs {
             2..4 => draw.uniform(60.0),
             4 => draw.uniform(190.0),
             5 => draw.half_whole(190.0, 0.0),
-            6 => close_to_whole(draw, 201.0),
+            6 => draw.close_to_whole(201.0),
             _ => draw.tiny(),
         };
         (x, 0.0)
@@ -56,7 +58,7 @@ pub const DVSA: OwnInputs = OwnInputs {
     limits: small_limits,
     edges: || [small_edges(), DVSA_LENGTHS.clone()].concat(),
     ordinary: |draw| match draw.below(16) {
-        0 => (zero(draw), whole_order(draw)),
+        0 => (draw.zero(), whole_order(draw)),
         _ => (small_argument(draw), order(draw)),
     },
     timed: |draw| (draw.uniform(5.8), draw.uniform(1.0)),
@@ -74,13 +76,13 @@ pub const DVLA: OwnInputs = OwnInputs {
     limits: large_limits,
     edges: || [large_edges(), DVLA_LENGTHS.clone()].concat(),
     ordinary: |draw| (large_argument(draw), order(draw)),
-    timed: |draw| (beyond(draw, 5.8, 40.0), draw.uniform(1.0)),
+    timed: |draw| (draw.beyond(5.8, 40.0), draw.uniform(1.0)),
     points: &[(-12.0, 4.25)],
 };
 
 pub const VVLA: OwnInputs = OwnInputs {
     edges: || [large_edges(), VVLA_LENGTHS.clone()].concat(),
-    timed: |draw| (beyond(draw, 7.5, 40.0), draw.uniform(1.0)),
+    timed: |draw| (draw.beyond(7.5, 40.0), draw.uniform(1.0)),
     points: &[],
     ..DVLA
 };
@@ -233,23 +235,9 @@ fn change(terms: impl Fn(f64) -> i32, mut low: f64, mut high: f64) -> Option<f64
     Some(high)
 }
 
-/// Numbers with the floats next to them, and `others` without.
-fn with_next(numbers: &[f64], others: &[f64]) -> Vec<f64> {
-    let next = numbers.iter().flat_map(|&x| around(x, 1));
-    next.chain(others.iter().copied()).collect()
-}
-
-fn both_signs(sizes: &[f64]) -> Vec<f64> {
-    sizes.iter().flat_map(|&size| [size, -size]).collect()
-}
-
-fn zero(draw: &mut Draw) -> f64 {
-    [0.0, -0.0][draw.below(2)]
-}
-
 fn small_argument(draw: &mut Draw) -> f64 {
     match draw.below(8) {
-        0 => zero(draw),
+        0 => draw.zero(),
         1 => draw.tiny(),
         2..4 => draw.uniform(2.0),
         4..7 => draw.uniform(7.5),
@@ -260,15 +248,9 @@ fn small_argument(draw: &mut Draw) -> f64 {
 fn large_argument(draw: &mut Draw) -> f64 {
     match draw.below(8) {
         0 => draw.uniform(5.8),
-        1 => beyond(draw, 40.0, 55.0),
-        _ => beyond(draw, 5.8, 40.0),
+        1 => draw.beyond(40.0, 55.0),
+        _ => draw.beyond(5.8, 40.0),
     }
-}
-
-/// Of a size between `from` and `to`, of either sign.
-fn beyond(draw: &mut Draw, from: f64, to: f64) -> f64 {
-    let x = draw.uniform(to - from);
-    x + from.copysign(x)
 }
 
 fn order(draw: &mut Draw) -> f64 {
@@ -276,7 +258,7 @@ fn order(draw: &mut Draw) -> f64 {
         0..3 => draw.uniform(3.0),
         3 => draw.uniform(60.0),
         4 => draw.uniform(1002.0),
-        5 => close_to_whole(draw, 61.0),
+        5 => draw.close_to_whole(61.0),
         6 => draw.half_whole(60.0, 0.0),
         _ => whole_order(draw),
     }
@@ -285,10 +267,4 @@ fn order(draw: &mut Draw) -> f64 {
 fn whole_order(draw: &mut Draw) -> f64 {
     let size = [4.0, 61.0, 1003.0][draw.below(3)];
     draw.uniform(size).trunc()
-}
-
-/// At most four floats away from a whole number below `size`.
-fn close_to_whole(draw: &mut Draw, size: f64) -> f64 {
-    let whole = draw.uniform(size).trunc();
-    draw.close(whole)
 }

@@ -17,5 +17,9 @@ answer-of-spec =
     rw (lt-leb n 10 (c .before .before .if1 .left), le-leb n 18 (c .before .if2 .taken)) (c .answer-of2 .ensures))
     (λ c κs. tt)
     (λ c.
-    let n = c .before .before .before .args .n in
-    rw (lt-leb n 10 (c .before .before .if1 .left), lt-leb n 18 (c .before .if2 .left)) (c .answer-of3 .ensures)))
+    let n = c .before .before .before .before .args .n in
+    rw (lt-leb n 10 (c .before .before .before .if1 .left), lt-leb n 18 (c .before .before .if2 .left), le-leb n 23 (c .before .if3 .taken)) (c .answer-of3 .ensures))
+    (λ c κs. tt)
+    (λ c.
+    let n = c .before .before .before .before .args .n in
+    rw (lt-leb n 10 (c .before .before .before .if1 .left), lt-leb n 18 (c .before .before .if2 .left), lt-leb n 23 (c .before .if3 .left)) (c .answer-of4 .ensures)))

@@ -8,7 +8,8 @@ use mir.Syntax.{w32}
 use mir.Val.{SFits, toZ, ofZ}
 use mir.ValLaws.{toZ-ofZ}
 use borrow.Author.Needs.{sfits-of}
-use Rattle.start_sums.proofs.Counts.{last-below-zero, from-zero, last-from-zero}
+use Rattle.floats.proofs.Cuts.{from-zero}
+use Rattle.start_sums.proofs.Counts.{last-below-zero, last-from-zero}
 use Rattle.start_sums.proofs.gamma.last_factor.Statement.{statement}
 use Rattle.start_sums.proofs.gamma.last_factor.Tie as tie
 

@@ -1,0 +1,34 @@
+-- What each shut definition is, for the proofs of this crate. No other crate cites this module.
+use mathlib.Core.Path.{_≡_, refl}
+use mathlib.Core.List.{List}
+use mathlib.Core.Bool.{Bool, _&&_, cond}
+use lib.Dec.{eqb}
+use Prim.Native.Nat.{ℕ, _+_}
+use lib.ListN.{length}
+use lib.Ieee.{Float}
+use Rattle.rungs.specs.declared.Function.{Function}
+use Rattle.rungs.specs.Rungs.{ownRungTwo}
+use Rattle.rungs.specs.Branches.{value, derivativeAt}
+use Rattle.columns.specs.Filled.{filled}
+use Rattle.columns.specs.Columns.{roomFor, valueColumn, derivativeColumn, roomIn, valuesIn, bothColumns}
+
+module _ (fn : Function) (below : Bool) (x u f : Float) (n : ℕ) where
+  pub valueColumn-is : (l : List Float) (derivatives : ℕ)
+      → valueColumn fn below x u f n l derivatives ≡ cond (roomFor n (length l) derivatives) (filled (value fn below x u f n) 0 0 (n + 1) l) l
+  unfolding valueColumn
+  valueColumn-is l derivatives = refl
+
+  pub derivativeColumn-is : (values : ℕ) (l : List Float)
+      → derivativeColumn fn below x u f n values l ≡ cond (roomFor n values (length l)) (filled (derivativeAt fn below x u f n) 0 0 n l) l
+  unfolding derivativeColumn
+  derivativeColumn-is values l = refl
+
+  pub bothColumns-is : (num : ℕ) (l : List Float)
+      → bothColumns fn below x u f n num l
+      ≡ cond (roomIn n num (length l)) (filled (derivativeAt fn below x u f n) 0 num n (filled (value fn below x u f n) 0 0 (valuesIn fn below f n) l)) l
+  unfolding bothColumns
+  bothColumns-is num l = refl
+
+pub valuesIn-is : (fn : Function) (below : Bool) (f : Float) (n : ℕ) → valuesIn fn below f n ≡ cond (ownRungTwo fn below f && eqb n 1) 3 (n + 1)
+unfolding valuesIn
+valuesIn-is fn below f n = refl

@@ -1,0 +1,72 @@
+-- The definitions by the outcomes of their tests, for the proofs of the code that makes them. Assumes nothing.
+use mathlib.Core.Path.{_≡_}
+use mathlib.Core.Bool.{Bool, true, false}
+use lib.Ieee.{Float, neg, lt, le}
+use Rattle.floats.specs.Operations.{_⊗_, f0, f½}
+use Rattle.floats.specs.Functions.{absolute}
+use Rattle.elementary.specs.Constants.{f2}
+use Rattle.rungs.specs.declared.Function.{Function}
+use Rattle.rungs.specs.declared.Function.the-variants.{D, «V»}
+use Rattle.rungs.specs.declared.Branch.the-variants.{Forward, Downward, Scaled}
+use Rattle.rungs.specs.Constants.{f7·5, f10}
+use Rattle.elementary.specs.Elementary.{exp}
+use Rattle.start_sums.specs.Constants.{quarter, rootTwoOverPi}
+use Rattle.rungs.specs.Rungs.{startSum, smallLimit, startValue, startsGaussian, ownRungTwo, nextOrder, startRungs}
+use Rattle.rungs.specs.Rungs.Open.{startValue-is, gaussian-is, growth-is, startRungs-is}
+use Rattle.rungs.specs.Branches.{orderIsLow, runsDown, branchOf}
+use Rattle.rungs.specs.Branches.Open.{branchOf-D-below, branchOf-V-above, orderIsLow-is, runsDown-is}
+
+module _ (fn : Function) (x va : Float) where
+  pub start-small : le (absolute x) (smallLimit fn) ≡ true → startSum fn false x va ≡ startValue fn x va
+  start-small t = rw (startValue-is fn x va, t)
+
+  pub start-large : le (absolute x) (smallLimit fn) ≡ false → startSum fn true x va ≡ startValue fn x va
+  start-large t = rw (startValue-is fn x va, t)
+
+module _ (x u : Float) where
+  pub d-forward : le x f0 ≡ true → Forward ≡ branchOf D true x u
+  d-forward t = rw (branchOf-D-below x u, t)
+
+  pub d-downward : le x f0 ≡ false → le x f2 ≡ true → Downward ≡ branchOf D true x u
+  d-downward s t = rw (branchOf-D-below x u, s, t)
+
+  pub d-scaled : le x f0 ≡ false → le x f2 ≡ false → Scaled ≡ branchOf D true x u
+  d-scaled s t = rw (branchOf-D-below x u, s, t)
+
+  pub low-order : le (absolute x) f10 ≡ true → le u (f½ ⊗ x ⊗ x) ≡ orderIsLow x u
+  low-order t = rw (orderIsLow-is x u, t)
+
+  pub no-low-order : le (absolute x) f10 ≡ false → false ≡ orderIsLow x u
+  no-low-order t = rw (orderIsLow-is x u, t)
+
+  pub down-between : le f0 x ≡ true → le x f7·5 ≡ true → true ≡ runsDown x u
+  down-between s t = rw (runsDown-is x u, s, t)
+
+  pub down-beyond : le f0 x ≡ true → le x f7·5 ≡ false → orderIsLow x u ≡ runsDown x u
+  down-beyond s t = rw (runsDown-is x u, s, t)
+
+  pub down-below : le f0 x ≡ false → orderIsLow x u ≡ runsDown x u
+  down-below t = rw (runsDown-is x u, t)
+
+  pub v-downward : runsDown x u ≡ true → Downward ≡ branchOf «V» false x u
+  v-downward t = rw (branchOf-V-above x u, t)
+
+  pub v-scaled : runsDown x u ≡ false → lt f7·5 x ≡ true → Scaled ≡ branchOf «V» false x u
+  v-scaled s t = rw (branchOf-V-above x u, s, t)
+
+  pub v-forward : runsDown x u ≡ false → lt f7·5 x ≡ false → Forward ≡ branchOf «V» false x u
+  v-forward s t = rw (branchOf-V-above x u, s, t)
+
+-- ---- the start rungs: e, a and b are what the calls give
+
+module _ (fn : Function) (s : Bool) (x f : Float) where
+  pub rungs-gaussian : (e : Float) → startsGaussian fn s f ≡ true → e ≡ exp (neg quarter ⊗ x ⊗ x) → _≡_ {A = Float × Float} (e, x ⊗ e) (startRungs fn s x f)
+  rungs-gaussian e t h = rw (startRungs-is fn s x f, t, gaussian-is x, h)
+
+  pub rungs-own : (a e : Float) → startsGaussian fn s f ≡ false → ownRungTwo fn s f ≡ true → a ≡ startValue fn x f → e ≡ exp (quarter ⊗ x ⊗ x)
+      → _≡_ {A = Float × Float} (a, rootTwoOverPi ⊗ e) (startRungs fn s x f)
+  rungs-own a e t u g h = rw (startRungs-is fn s x f, t, u, growth-is x, g, h)
+
+  pub rungs-summed : (a b order : Float) → startsGaussian fn s f ≡ false → ownRungTwo fn s f ≡ false → a ≡ startValue fn x f → order ≡ nextOrder s f
+      → b ≡ startValue fn x order → _≡_ {A = Float × Float} (a, b) (startRungs fn s x f)
+  rungs-summed a b order t u g h k = rw (startRungs-is fn s x f, t, u, g, k, h)

@@ -1,0 +1,105 @@
+-- The rungs behind 01's examples, at x = 0 and f = 0, as laws for the crates above: from the start rungs, which elementary and start_sums give, by
+-- computed steps. Assumes nothing.
+use mathlib.Core.Path.{_≡_, sym, ap, _∙_}
+use Prim.Native.Nat.{ℕ, suc, _+_}
+use native.Mathlib.Omega.{arith}
+use mathlib.Core.Bool.{true, false}
+use mathlib.Core.List.{List}
+use lib.ListN.{getD}
+use lib.Ieee.{Float, nan, add, mul, neg, le, eq, ofBits}
+use Rattle.floats.specs.Operations.{_⊗_, decimal, f0, f1}
+use Rattle.floats.specs.Functions.{absolute}
+use Rattle.elementary.proofs.Laws.{exp-zero, exp-minus-zero}
+use Rattle.start_sums.specs.Constants.{rootTwoOverPi}
+use Rattle.start_sums.proofs.Laws.{vvsa-zero-zero}
+use Rattle.rungs.specs.declared.Function.the-variants.{D, «V»}
+use Rattle.rungs.specs.declared.Branch.the-variants.{Forward}
+use Rattle.rungs.specs.Rungs.{step, startValue, startRungs, nextRung, rung, derivative}
+use Rattle.rungs.specs.Rungs.Open.{startSum-V-small, smallLimit-V, startValue-is, gaussian-is, growth-is, startsGaussian-D-above, startsGaussian-V, startRungs-is, ownRungTwo-D, ownRungTwo-V-below, nextRung-is, derivative-V-below}
+use Rattle.rungs.specs.Rungs.Examples.{computed, values, examples-hold}
+use Rattle.rungs.specs.Branches.{branchOf}
+use Rattle.rungs.specs.Branches.Open.{branchOf-D-above, branchOf-V-below}
+use Rattle.rungs.proofs.Laws.{rungs-zero-one, rung-next, own-rung-two}
+
+at : (n : ℕ) → getD computed n nan ≡ getD values n nan
+at n = ap (λ (l : List Float). getD l n nan) examples-hold
+
+-- ---- D from order 0 on
+
+pub D-forward : (x u : Float) → branchOf D false x u ≡ Forward
+D-forward x u = branchOf-D-above x u
+
+d-start : startRungs D false f0 f0 ≡ (f1, f0)
+unfolding eq mul neg ofBits
+d-start = rw (startRungs-is D false f0 f0, startsGaussian-D-above f0) (ap (λ (e : Float). (e, f0 ⊗ e)) (gaussian-is f0 ∙ exp-minus-zero))
+
+both : startRungs D false f0 f0 ≡ (rung D false f0 f0 0, rung D false f0 f0 1)
+both = rungs-zero-one D false f0 f0
+
+pub D-rung-0 : rung D false f0 f0 0 ≡ f1
+D-rung-0 = ap (λ (r : Float × Float). r .0) (sym both ∙ d-start)
+
+pub D-rung-1 : rung D false f0 f0 1 ≡ f0
+D-rung-1 = ap (λ (r : Float × Float). r .1) (sym both ∙ d-start)
+
+-- a step from known values
+step-to : (k : ℕ) (a b : Float) → rung D false f0 f0 k ≡ a → rung D false f0 f0 (suc k) ≡ b → nextRung D false f0 f0 (k + 2) a b ≡ rung D false f0 f0 (k + 2)
+step-to k a b ea eb =
+    let e : suc (suc k) ≡ k + 2 = omega arith in
+    rw (← ea, ← eb) (rung-next D false f0 f0 k ∙ ap (rung D false f0 f0) e)
+
+plain : (k : ℕ) (a b : Float) → nextRung D false f0 f0 k a b ≡ step D false f0 f0 k a b
+plain k a b = rw (nextRung-is D false f0 f0 k a b, ownRungTwo-D false f0)
+
+pub D-rung-2 : rung D false f0 f0 2 ≡ neg f1
+D-rung-2 = sym (step-to 0 f1 f0 D-rung-0 D-rung-1) ∙ plain 2 f1 f0 ∙ at 0
+
+pub D-rung-3 : rung D false f0 f0 3 ≡ neg f0
+D-rung-3 = sym (step-to 1 f0 (neg f1) D-rung-1 D-rung-2) ∙ plain 3 f0 (neg f1) ∙ at 1
+
+pub D-rung-4 : rung D false f0 f0 4 ≡ decimal 3 0
+D-rung-4 = sym (step-to 2 (neg f1) (neg f0) D-rung-2 D-rung-3) ∙ plain 4 (neg f1) (neg f0) ∙ at 2
+
+pub D-rung-5 : rung D false f0 f0 5 ≡ f0
+D-rung-5 = sym (step-to 3 (neg f0) (decimal 3 0) D-rung-3 D-rung-4) ∙ plain 5 (neg f0) (decimal 3 0) ∙ at 3
+
+pub D-derivative-0 : derivative D false f0 f0 0 f1 f0 ≡ f0
+D-derivative-0 = at 4
+
+pub D-derivative-1 : derivative D false f0 f0 1 f0 (neg f1) ≡ f1
+D-derivative-1 = at 5
+
+pub D-derivative-2 : derivative D false f0 f0 2 (neg f1) (neg f0) ≡ f0
+D-derivative-2 = at 6
+
+pub D-derivative-4 : derivative D false f0 f0 4 (decimal 3 0) f0 ≡ f0
+D-derivative-4 = at 7
+
+-- ---- V below 0
+
+pub V-forward : (x u : Float) → branchOf «V» true x u ≡ Forward
+V-forward x u = branchOf-V-below x u
+
+v-zero : startValue «V» f0 f0 ≡ f0
+unfolding le absolute ofBits
+v-zero = rw (startValue-is «V» f0 f0, smallLimit-V, startSum-V-small f0 f0) vvsa-zero-zero
+
+v-start : startRungs «V» true f0 f0 ≡ (f0, rootTwoOverPi)
+unfolding eq mul ofBits
+v-start =
+    rw (startRungs-is «V» true f0 f0, startsGaussian-V true f0, ownRungTwo-V-below f0)
+    (ap (λ (e : Float). (startValue «V» f0 f0, rootTwoOverPi ⊗ e)) (growth-is f0 ∙ exp-zero) ∙ ap (λ (a : Float). (a, rootTwoOverPi ⊗ f1)) v-zero)
+
+pub V-rung-0 : rung «V» true f0 f0 0 ≡ f0
+V-rung-0 = ap (λ (r : Float × Float). r .0) (sym (rungs-zero-one «V» true f0 f0) ∙ v-start)
+
+pub V-rung-1 : rung «V» true f0 f0 1 ≡ rootTwoOverPi
+V-rung-1 = ap (λ (r : Float × Float). r .1) (sym (rungs-zero-one «V» true f0 f0) ∙ v-start)
+
+pub V-rung-2 : rung «V» true f0 f0 2 ≡ f0
+unfolding eq mul ofBits
+V-rung-2 = sym (own-rung-two «V» true f0 f0 (ownRungTwo-V-below f0)) ∙ ap (λ (r : Float). f0 ⊗ r) V-rung-1
+
+pub V-derivative-1 : derivative «V» true f0 f0 1 rootTwoOverPi f0 ≡ f0
+unfolding add mul neg ofBits
+V-derivative-1 = derivative-V-below f0 f0 1 rootTwoOverPi f0

@@ -1,0 +1,41 @@
+-- The branches, and the columns of a table (01, "Upward, downward, scaled"; the tests of the source's pbdv_impl and pbvv_impl). u is the request's own
+-- shifted order.
+use Prim.Native.Nat.{ℕ, _+_}
+use mathlib.Core.Bool.{Bool, true, false, _&&_, _||_, cond}
+use lib.Ieee.{Float, lt, le}
+use Rattle.floats.specs.Operations.{_⊗_, f0, f½}
+use Rattle.floats.specs.Functions.{absolute}
+use Rattle.elementary.specs.Constants.{f2}
+use Rattle.rungs.specs.declared.Function.{Function}
+use Rattle.rungs.specs.declared.Function.the-variants.{D, «V»}
+use Rattle.rungs.specs.declared.Branch.{Branch}
+use Rattle.rungs.specs.declared.Branch.the-variants.{Forward, Downward, Scaled}
+use Rattle.rungs.specs.Constants.{f7·5, f10}
+use Rattle.rungs.specs.Rungs.{rung, downwardRung, scaledRung, derivative}
+pub mod Open
+
+-- the size of x is at most 10, and u at most x²/2
+pub orderIsLow : Float → Float → Bool
+orderIsLow x u = le (absolute x) f10 && le u (f½ ⊗ x ⊗ x)
+
+-- V from order 0 on: 0 ≤ x ≤ 7.5, or the order is low
+pub runsDown : Float → Float → Bool
+runsDown x u = le f0 x && le x f7·5 || orderIsLow x u
+
+pub branchOf : Function → Bool → Float → Float → Branch
+branchOf D false x u = Forward
+branchOf D true x u = cond (le x f0) Forward (cond (le x f2) Downward Scaled)
+branchOf «V» false x u = cond (runsDown x u) Downward (cond (lt f7·5 x) Scaled Forward)
+branchOf «V» true x u = Forward
+
+pub valueIn : Branch → Function → Bool → Float → Float → Float → ℕ → ℕ → Float
+valueIn Forward fn below x u f n = rung fn below x f
+valueIn Downward fn below x u f n = downwardRung fn x u f n
+valueIn Scaled fn below x u f n = scaledRung fn x f n
+
+-- value k of a table with the top rung n, and derivative k
+pub value : Function → Bool → Float → Float → Float → ℕ → ℕ → Float
+value fn below x u f n = valueIn (branchOf fn below x u) fn below x u f n
+
+pub derivativeAt : Function → Bool → Float → Float → Float → ℕ → ℕ → Float
+derivativeAt fn below x u f n k = derivative fn below x f k (value fn below x u f n k) (value fn below x u f n (k + 1))

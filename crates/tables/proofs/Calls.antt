@@ -1,0 +1,110 @@
+-- What a request is refused, leaves and answers, from what its parts do. Assumes nothing.
+use mathlib.Core.Path.{_≡_, refl, sym, _∙_}
+use mathlib.Core.List.{List}
+use mathlib.Core.Logic.{inl}
+use mathlib.Core.Option.{Option, some, none}
+use mathlib.Core.Bool.{Bool, true, false, _||_, cond}
+use Prim.Native.Nat.{ℕ, _+_, _-_, _*_, _≤_, _<_}
+use native.Mathlib.Nat.{zero-add}
+use native.Mathlib.Omega.{arith}
+use borrow.Author.Tests.{eq-eqb, ne-eqb, lt-ltb, le-ltb, ltb-false}
+use lib.Dec.{ltb}
+use lib.ListN.{length}
+use lib.Ieee.{Float, nan, isNan}
+use Rattle.order.specs.Order.{tooLarge, below, shifted, fractionOf, topRung, num}
+use Rattle.order.specs.Facts.{Split}
+use Rattle.order.proofs.Laws.{num-least}
+use Rattle.rungs.specs.declared.Function.{Function}
+use Rattle.rungs.specs.Branches.{value, derivativeAt}
+use Rattle.columns.specs.Filled.{filled}
+use Rattle.columns.specs.Columns.{slot, valuesIn, bothColumns}
+use Rattle.columns.proofs.Room.{room-in}
+use Rattle.columns.proofs.Tables.{values-in, both-filled}
+use Rattle.tables.specs.Tables.{refusal, valueOf, derivativeOf, valuesWritten, tableAfter, answer}
+use Rattle.tables.specs.Tables.Open.{refusal-is, valueOf-is, derivativeOf-is, valuesWritten-is, tableAfter-is, answer-is}
+use Rattle.columns.proofs.Filled.{length-filled, filled-in, filled-out}
+use Rattle.columns.proofs.Branches.{slot-filled}
+
+-- ---- the refusals, by the outcomes of the tests
+
+module _ (v x : Float) (slots : ℕ) where
+  pub refused-order : isNan v ≡ true → 1 ≡ refusal v x slots
+  refused-order a = rw (refusal-is v x slots, a)
+
+  pub refused-argument : isNan v ≡ false → isNan x ≡ true → 1 ≡ refusal v x slots
+  refused-argument a b = rw (refusal-is v x slots, a, b)
+
+  pub refused-size : isNan v ≡ false → isNan x ≡ false → tooLarge v ≡ true → 2 ≡ refusal v x slots
+  refused-size a b c = rw (refusal-is v x slots, a, b, c)
+
+  pub refused-short : isNan v ≡ false → isNan x ≡ false → tooLarge v ≡ false → slots < 2 * num v → 3 ≡ refusal v x slots
+  refused-short a b c d = rw (refusal-is v x slots, a, b, c, lt-ltb slots (2 * num v) d)
+
+  pub not-refused : isNan v ≡ false → isNan x ≡ false → tooLarge v ≡ false → 2 * num v ≤ slots → 0 ≡ refusal v x slots
+  not-refused a b c d = rw (refusal-is v x slots, a, b, c, le-ltb slots (2 * num v) d)
+
+  -- a request that is not refused
+  pub accepted : refusal v x slots ≡ 0 → (isNan v ≡ false) × (isNan x ≡ false) × (tooLarge v ≡ false) × (2 * num v ≤ slots)
+  accepted e =
+      let p = passed (isNan v) (isNan x) (tooLarge v) (ltb slots (2 * num v)) (sym (refusal-is v x slots) ∙ e) in
+      (p .0, p .1, p .2, ltb-false slots (2 * num v) (p .3))
+    where
+      passed : (a b c d : Bool) → _≡_ {A = ℕ} (cond (a || b) 1 (cond c 2 (cond d 3 0))) 0 → (a ≡ false) × (b ≡ false) × (c ≡ false) × (d ≡ false)
+      passed true b c d e = absurd (omega arith)
+      passed false true c d e = absurd (omega arith)
+      passed false false true d e = absurd (omega arith)
+      passed false false false true e = absurd (omega arith)
+      passed false false false false e = (refl, refl, refl, refl)
+
+-- ---- the whole call: the table after it, and its answer
+
+module _ (fn : Function) (v x : Float) (l : List Float) where
+  pub left-as-found : (r : ℕ) → r ≡ refusal v x (length l) → (r ≡ 0 → ⊥) → (none ≡ answer fn v x (length l)) × (l ≡ tableAfter fn v x l)
+  left-as-found r e h =
+      let z = ne-eqb (refusal v x (length l)) 0 (λ q. h (e ∙ q)) in
+      (rw (answer-is fn v x (length l), z), rw (tableAfter-is fn v x l, z))
+
+  module _ (ok : refusal v x (length l) ≡ 0) (facts : Split (below v) (shifted v) (fractionOf v) (topRung v) (num v)) where
+    room : 2 * num v ≤ length l
+    room = accepted v x (length l) ok .3
+
+    written-bound : (topRung v + 1 ≤ valuesWritten fn v) × (valuesWritten fn v ≤ topRung v + 2)
+    written-bound = rw (valuesWritten-is fn v) (values-in fn (below v) (fractionOf v) (topRung v))
+
+    -- the table of an accepted request
+    pub after-accepted : tableAfter fn v x l ≡ filled (derivativeOf fn v x) 0 (num v) (topRung v) (filled (valueOf fn v x) 0 0 (valuesWritten fn v) l)
+    after-accepted = rw (tableAfter-is fn v x l, eq-eqb (refusal v x (length l)) 0 ok)
+
+    pub answer-accepted : answer fn v x (length l) ≡ some (valueOf fn v x (topRung v - 1), derivativeOf fn v x (topRung v - 1))
+    answer-accepted = rw (answer-is fn v x (length l), eq-eqb (refusal v x (length l)) 0 ok)
+
+    -- its slots
+    pub value-slot : (k : ℕ) → k ≤ topRung v → slot (tableAfter fn v x l) k ≡ valueOf fn v x k
+    unfolding slot
+    value-slot k h =
+        rw after-accepted
+        (filled-out (derivativeOf fn v x) 0 (num v) (topRung v) (filled (valueOf fn v x) 0 0 (valuesWritten fn v) l) nan k (inl (omega (arith, facts .room)))
+        ∙ slot-filled (valueOf fn v x) (valuesWritten fn v) l k (omega (arith, written-bound)) (omega (arith, written-bound, facts .room, num-least v, room)))
+
+    pub derivative-slot : (k : ℕ) → k < topRung v → slot (tableAfter fn v x l) (num v + k) ≡ derivativeOf fn v x k
+    unfolding slot
+    derivative-slot k h =
+        let w = filled (valueOf fn v x) 0 0 (valuesWritten fn v) l in
+        let e : length w ≡ length l = length-filled (valueOf fn v x) 0 0 (valuesWritten fn v) l in
+        rw (after-accepted) (rw zero-add at (filled-in (derivativeOf fn v x) 0 (num v) (topRung v) w nan k h (omega (arith, facts .room, room))))
+
+    -- what the parts found and left, put together
+    pub settled : (s : Bool) (u f : Float) (n m : ℕ) (l1 : List Float) (pair : Option (Float × Float))
+        → s ≡ below v → u ≡ shifted v → f ≡ fractionOf v → n ≡ topRung v → m ≡ num v
+        → l1 ≡ bothColumns fn s x u f n m l
+        → pair ≡ some (slot l1 (n - 1), slot l1 (m + (n - 1)))
+        → (pair ≡ answer fn v x (length l)) × (l1 ≡ tableAfter fn v x l)
+    settled s u f n m l1 pair es eu ef en em e1 ep =
+        let in-room = room-in (topRung v) (num v) (length l) (facts .least) (facts .most) (facts .room) (num-least v) room in
+        let both : l1 ≡ filled (derivativeAt fn (below v) x (shifted v) (fractionOf v) (topRung v)) 0 (num v) (topRung v) (filled (value fn (below v) x (shifted v) (fractionOf v) (topRung v)) 0 0 (valuesIn fn (below v) (fractionOf v) (topRung v)) l) =
+        e1 ∙ rw (es, eu, ef, en, em) (both-filled fn (below v) x (shifted v) (fractionOf v) (topRung v) (num v) l in-room) in
+        let after : l1 ≡ tableAfter fn v x l = both ∙ rw (after-accepted, derivativeOf-is fn v x, valueOf-is fn v x, valuesWritten-is fn v) in
+        let low : slot l1 (n - 1) ≡ valueOf fn v x (topRung v - 1) = rw (after, en) (value-slot (topRung v - 1) (omega (arith, facts .least))) in
+        let high : slot l1 (m + (n - 1)) ≡ derivativeOf fn v x (topRung v - 1) =
+        rw (after, en, em) (derivative-slot (topRung v - 1) (omega (arith, facts .least))) in
+        (ep ∙ rw (low, high, answer-accepted), after)

@@ -1,0 +1,23 @@
+-- `tables::requests::pair_at` meets its contract: what is read is what the definition names.
+use mathlib.Core.Path.{refl}
+use native.Mathlib.Omega.{arith}
+use Rattle.tables.specs.Tables.{refusalOf, pairOf}
+use Rattle.columns.specs.Columns.{slot}
+use Rattle.tables.proofs.requests.pair_at.Statement.{statement}
+use Rattle.tables.proofs.requests.pair_at.Tie as tie
+
+returns : tie.Need-returns
+unfolding refusalOf pairOf slot
+returns c = (refl, refl)
+
+pub pair-at-spec : {M : Type 1} → statement M
+pair-at-spec =
+    tie.close
+    (tie.spec
+    (λ c. omega arith)
+    (λ c. omega arith)
+    (λ c. omega arith)
+    (λ c. omega arith)
+    (λ c. omega arith)
+    (λ c. omega arith)
+    returns)

@@ -1,0 +1,55 @@
+-- The table calls of D and V (01, "A request comes in" and "Splitting the order"): which requests are refused, what a request answers, and what it leaves
+-- of the table that was lent.
+use mathlib.Core.List.{List}
+use mathlib.Core.Option.{Option, some, none}
+use Prim.Native.Nat.{ℕ, _+_, _-_, _*_}
+use mathlib.Core.Bool.{_||_, cond}
+use lib.Dec.{eqb, ltb}
+use lib.ListN.{length}
+use lib.Ieee.{Float, isNan}
+use Rattle.order.specs.Order.{tooLarge, below, shifted, fractionOf, topRung, num}
+use Rattle.rungs.specs.declared.Function.{Function}
+use Rattle.rungs.specs.Branches.{value, derivativeAt}
+use Rattle.tables.specs.declared.Answer.{Answer}
+use Rattle.tables.specs.declared.Answer.the-variants.{Pair, Refused}
+use Rattle.columns.specs.Filled.{filled}
+use Rattle.columns.specs.Columns.{valuesIn}
+pub mod Open
+
+-- ---- an answer, in 01's words: a refusal number, which is 0 where there is none, or the pair of value and derivative
+
+unfoldable pub refusalOf : Answer → ℕ
+refusalOf (Pair value derivative) = 0
+refusalOf (Refused number) = number
+
+unfoldable pub pairOf : Answer → Option (Float × Float)
+pairOf (Pair value derivative) = some (value, derivative)
+pairOf (Refused number) = none
+
+-- ---- a request: a function, an order v, an argument x, and a table
+
+-- the refusals, by rising number: a NaN, the size of v, a table below 2·num slots
+pub refusal : Float → Float → ℕ → ℕ
+refusal v x slots = cond (isNan v || isNan x) 1 (cond (tooLarge v) 2 (cond (ltb slots (2 * num v)) 3 0))
+
+-- value k and derivative k. They stand at the slots k and num + k.
+pub valueOf : Function → Float → Float → ℕ → Float
+valueOf fn v x = value fn (below v) x (shifted v) (fractionOf v) (topRung v)
+
+pub derivativeOf : Function → Float → Float → ℕ → Float
+derivativeOf fn v x = derivativeAt fn (below v) x (shifted v) (fractionOf v) (topRung v)
+
+-- how many values are written: 0 to n, and value 2 where V has it at n = 1
+pub valuesWritten : Function → Float → ℕ
+valuesWritten fn v = valuesIn fn (below v) (fractionOf v) (topRung v)
+
+-- the table after the call: its values, and derivatives 0 to n − 1 from slot num on; a refusal leaves it as found
+pub tableAfter : Function → Float → Float → List Float → List Float
+tableAfter fn v x l =
+    cond (eqb (refusal v x (length l)) 0)
+    (filled (derivativeOf fn v x) 0 (num v) (topRung v) (filled (valueOf fn v x) 0 0 (valuesWritten fn v) l))
+    l
+
+-- what the call answers: value and derivative n − 1
+pub answer : Function → Float → Float → ℕ → Option (Float × Float)
+answer fn v x slots = cond (eqb (refusal v x slots) 0) (some (valueOf fn v x (topRung v - 1), derivativeOf fn v x (topRung v - 1))) none

@@ -1,0 +1,42 @@
+-- What each shut definition is, for the proofs of this crate. No other crate cites this module.
+use mathlib.Core.Path.{_≡_, refl}
+use mathlib.Core.List.{List}
+use mathlib.Core.Option.{some, none}
+use Prim.Native.Nat.{ℕ, _-_, _*_}
+use mathlib.Core.Bool.{_||_, cond}
+use lib.Dec.{eqb, ltb}
+use lib.ListN.{length}
+use lib.Ieee.{Float, isNan}
+use Rattle.order.specs.Order.{tooLarge, below, shifted, fractionOf, topRung, num}
+use Rattle.rungs.specs.declared.Function.{Function}
+use Rattle.rungs.specs.Branches.{value, derivativeAt}
+use Rattle.columns.specs.Filled.{filled}
+use Rattle.columns.specs.Columns.{valuesIn}
+use Rattle.tables.specs.Tables.{refusal, valueOf, derivativeOf, valuesWritten, tableAfter, answer}
+
+pub refusal-is : (v x : Float) (slots : ℕ) → refusal v x slots ≡ cond (isNan v || isNan x) 1 (cond (tooLarge v) 2 (cond (ltb slots (2 * num v)) 3 0))
+unfolding refusal
+refusal-is v x slots = refl
+
+pub valuesWritten-is : (fn : Function) (v : Float) → valuesWritten fn v ≡ valuesIn fn (below v) (fractionOf v) (topRung v)
+unfolding valuesWritten
+valuesWritten-is fn v = refl
+
+module _ (fn : Function) (v x : Float) where
+  pub valueOf-is : valueOf fn v x ≡ value fn (below v) x (shifted v) (fractionOf v) (topRung v)
+  unfolding valueOf
+  valueOf-is = refl
+
+  pub derivativeOf-is : derivativeOf fn v x ≡ derivativeAt fn (below v) x (shifted v) (fractionOf v) (topRung v)
+  unfolding derivativeOf
+  derivativeOf-is = refl
+
+  pub tableAfter-is : (l : List Float)
+      → tableAfter fn v x l ≡ cond (eqb (refusal v x (length l)) 0) (filled (derivativeOf fn v x) 0 (num v) (topRung v) (filled (valueOf fn v x) 0 0 (valuesWritten fn v) l)) l
+  unfolding tableAfter
+  tableAfter-is l = refl
+
+  pub answer-is : (slots : ℕ)
+      → answer fn v x slots ≡ cond (eqb (refusal v x slots) 0) (some (valueOf fn v x (topRung v - 1), derivativeOf fn v x (topRung v - 1))) none
+  unfolding answer
+  answer-is slots = refl

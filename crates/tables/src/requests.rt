@@ -1,0 +1,60 @@
+// A request: whether it is refused, what it stores, what it answers.
+
+ghost use mathlib.Core.Path.{_≡_};
+ghost use mathlib.Core.Option.{some};
+ghost use Prim.Native.Nat.{_+_, _-_, _≤_};
+ghost use lib.ListN.{length};
+ghost use Rattle.columns.specs.Columns.{slot};
+ghost use Rattle.tables.specs.Tables.{refusalOf, pairOf, refusal, tableAfter, answer};
+use crate::Answer;
+use floats::is_nan;
+use order::Rung;
+use rungs::Function;
+
+// The number of a request's refusal, 0 where there is none.
+fn refusal(v: f64, x: f64, slots: usize) -> u8
+    ensures { λ r. ⌜ r ≡ refusal v x slots ⌝ }
+{
+    if is_nan(v) {
+        return 1;
+    }
+    if is_nan(x) {
+        return 1;
+    }
+    if order::too_large(v) {
+        return 2;
+    }
+    if slots < 2 * order::num(v) as usize {
+        return 3;
+    }
+    0
+}
+
+// Slot n - 1 of both columns.
+fn pair_at(t: &[f64], n: Rung, num: Rung) -> Answer
+    requires some { ⌜ 1 ≤ n ⌝ }
+    requires room { ⌜ num + n ≤ length (now t) ⌝ }
+    ensures number { λ r. ⌜ refusalOf r ≡ 0 ⌝ }
+    ensures pair { λ r. ⌜ pairOf r ≡ some (slot (now (t .entry)) (n - 1), slot (now (t .entry)) (num + (n - 1))) ⌝ }
+{
+    let last = n as usize - 1;
+    let at = num as usize + last;
+    Answer::Pair(t[last], t[at])
+}
+
+// The table of a function at order v and argument x.
+pub fn table(function: Function, v: f64, x: f64, t: &mut [f64]) -> Answer
+    ensures number { λ r. ⌜ refusalOf r ≡ refusal v x (length (now (t .entry))) ⌝ }
+    ensures pair { λ r. ⌜ pairOf r ≡ answer function v x (length (now (t .entry))) ⌝ }
+    ensures after { λ _. ⌜ now (t .exit) ≡ tableAfter function v x (now (t .entry)) ⌝ }
+{
+    let number = refusal(v, x, t.len());
+    if number != 0 {
+        return Answer::Refused(number);
+    }
+    let o = order::split(v);
+    let num = order::num(v);
+    let n = o.n;
+    columns::fill_table(t, function, o.below, x, o.u, o.f, n, num);
+    pair_at(t, n, num)
+}

@@ -15,7 +15,7 @@ pub fn answer_of(n: u64, x: f64, y: f64) -> f64
         15 => elementary::pow(x, y),
         16 => elementary::sin(x),
         17 => elementary::cos(x),
-        18 => elementary::square_root(x),
+        18 => roots::square_root(x),
         _ => 0.0 / 0.0,
     }
 }

@@ -5,7 +5,8 @@ mod table_calls;
 ghost use mathlib.Core.Path.{_≡_};
 ghost use lib.Ieee.{isNan, toSigned};
 ghost use Rattle.floats.specs.Functions.{alike, absolute, infinite, truncated, fraction, lesser, greater, signOf};
-ghost use Rattle.elementary.specs.Elementary.{exp, exp2, expM1, ln, power, sin, cos, squareRoot};
+ghost use Rattle.elementary.specs.Elementary.{exp, exp2, expM1, ln, power, sin, cos};
+ghost use Rattle.roots.specs.SquareRoot.{squareRoot};
 ghost use Rattle.start_sums.specs.StartSums.{gamma2, dvsa, dvla, vvsa, vvla};
 
 #[no_mangle]
@@ -131,7 +132,7 @@ pub extern "C" fn compared_cos(y: f64) -> f64
 pub extern "C" fn compared_square_root(x: f64) -> f64
     ensures { λ r. ⌜ r ≡ squareRoot x ⌝ }
 {
-    elementary::square_root(x)
+    roots::square_root(x)
 }
 
 #[no_mangle]

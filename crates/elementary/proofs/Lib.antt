@@ -8,11 +8,3 @@ pub mod QuarterTurns
 pub mod Significand
 pub mod LnCases
 pub mod Laws
-pub mod RootWhole
-pub mod RootRounding
-pub mod RootDigits
-pub mod RootNormal
-pub mod RootScale
-pub mod RootPatterns
-pub mod SquareRootMiddles
-pub mod SquareRootNearest

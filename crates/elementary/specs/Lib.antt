@@ -2,5 +2,3 @@ pub mod Constants
 pub mod Elementary
 pub mod QuarterTurns
 pub mod LnSteps
-pub mod RootSteps
-pub mod NearestRoot

@@ -3,7 +3,6 @@
 mod exponential;
 mod logarithm;
 mod near;
-mod root;
 mod trigonometric;
 
 pub use exponential::exp;
@@ -11,6 +10,5 @@ pub use exponential::exp_m1;
 pub use exponential::exp2;
 pub use logarithm::ln;
 pub use logarithm::pow;
-pub use root::square_root;
 pub use trigonometric::cos;
 pub use trigonometric::sin;

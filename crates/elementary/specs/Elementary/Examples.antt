@@ -5,7 +5,7 @@ use mathlib.Core.List.{List, [], _∷_, map}
 use lib.Ieee.{Float, nan, inf, add, sub, mul, div, neg, lt, le, eq, ne, ofBits, ofInt, toSigned, size, span, climb}
 use Rattle.floats.specs.Operations.{bits, decimal, f0, f1}
 use Rattle.elementary.specs.Elementary.{near, downTo, expSum, scaled, exp, exp2, expM1, trigSum, sine, cosine, quadrant, sinIn, cosIn, sin, cos}
-use Rattle.elementary.specs.Elementary.{lnSum, lnOfParts, ln, power, rootDigits, wholeRoot, roundedRoot, droppedDigits, rootOfUnits, squareRoot}
+use Rattle.elementary.specs.Elementary.{lnSum, lnOfParts, ln, power}
 
 -- a function at an argument, and its value there
 abbrev pub examples : List (Float × Float)
@@ -101,19 +101,6 @@ examples =
     (power (neg f0) (neg f1), inf false) ∷
     (power (neg f1) (decimal 2 0), nan) ∷
     (power (decimal 10 0) (neg (decimal 3005 1)), bits 0x018b_1b75_8337_8ff2) ∷
-    -- square roots: of 2, an exact one, the smallest subnormal, the largest float, zeros, below 0
-    (squareRoot (decimal 2 0), bits 0x3ff6_a09e_667f_3bcd) ∷
-    (squareRoot (decimal 4 0), bits 0x4000_0000_0000_0000) ∷
-    (squareRoot (bits 0x0000_0000_0000_0001), bits 0x1e60_0000_0000_0000) ∷
-    (squareRoot (bits 0x7fef_ffff_ffff_ffff), bits 0x5fef_ffff_ffff_ffff) ∷
-    (squareRoot (decimal 1 1), bits 0x3fd4_3d13_6248_490f) ∷
-    (squareRoot f0, f0) ∷
-    (squareRoot (neg f0), neg f0) ∷
-    (squareRoot (neg f1), nan) ∷
-    (squareRoot (bits 0x8000_0000_0000_0001), nan) ∷
-    (squareRoot (inf false), inf false) ∷
-    (squareRoot (inf true), nan) ∷
-    (squareRoot nan, nan) ∷
     []
 
 -- the two columns, and the theorem: each is its value
@@ -125,6 +112,5 @@ values = map (λ (e : Float × Float). e .1) examples
 
 pub examples-hold : computed ≡ values
 unfolding near downTo expSum scaled exp exp2 expM1 trigSum sine cosine quadrant sinIn cosIn sin cos lnSum lnOfParts ln power
-    rootDigits wholeRoot roundedRoot droppedDigits rootOfUnits squareRoot
     add sub mul div neg lt le eq ne ofBits decimal ofInt toSigned size span climb
 examples-hold = refl

@@ -1,0 +1,3 @@
+pub mod SquareRoot
+pub mod Steps
+pub mod NearestRoot

@@ -96,3 +96,7 @@ order-999½ = at 7
 -- P12: 1 − 2^−53 is shifted to 2, and n = 2
 pub order-below-one : parts (bits 0x3fef_ffff_ffff_ffff) ≡ (false, false, bits 0x4000_0000_0000_0000, f0, 2, 3)
 order-below-one = at 8
+
+-- a tiny order below 0 has f = 0 and n = 1
+pub order-tiny-below : parts (neg (bits 0x3c30_0000_0000_0000)) ≡ (false, true, neg f1, f0, 1, 3)
+order-tiny-below = at 11

@@ -14,7 +14,7 @@ use Rattle.start_sums.specs.Constants.{rootTwoOverPi}
 use Rattle.start_sums.proofs.Laws.{vvsa-zero-zero}
 use Rattle.rungs.specs.declared.Function.the-variants.{D, «V»}
 use Rattle.rungs.specs.declared.Branch.the-variants.{Forward}
-use Rattle.rungs.specs.Rungs.{step, startValue, startRungs, nextRung, rung, derivative}
+use Rattle.rungs.specs.Rungs.{step, startValue, startRungs, ownRungTwo, nextRung, rung, derivative}
 use Rattle.rungs.specs.Rungs.Open.{startSum-V-small, smallLimit-V, startValue-is, gaussian-is, growth-is, startsGaussian-D-above, startsGaussian-V, startRungs-is, ownRungTwo-D, ownRungTwo-V-below, nextRung-is, derivative-V-below}
 use Rattle.rungs.specs.Rungs.Examples.{computed, values, examples-hold}
 use Rattle.rungs.specs.Branches.{branchOf}
@@ -103,3 +103,11 @@ V-rung-2 = sym (own-rung-two «V» true f0 f0 (ownRungTwo-V-below f0)) ∙ ap (�
 pub V-derivative-1 : derivative «V» true f0 f0 1 rootTwoOverPi f0 ≡ f0
 unfolding add mul neg ofBits
 V-derivative-1 = derivative-V-below f0 f0 1 rootTwoOverPi f0
+
+pub V-derivative-0 : derivative «V» true f0 f0 0 f0 rootTwoOverPi ≡ rootTwoOverPi
+unfolding add mul neg ofBits
+V-derivative-0 = derivative-V-below f0 f0 0 f0 rootTwoOverPi
+
+pub V-own-two : ownRungTwo «V» true f0 ≡ true
+unfolding eq ofBits
+V-own-two = ownRungTwo-V-below f0

@@ -22,12 +22,14 @@ orderIsLow x u = le (absolute x) f10 && le u (f½ ⊗ x ⊗ x)
 pub runsDown : Float → Float → Bool
 runsDown x u = le f0 x && le x f7·5 || orderIsLow x u
 
+-- 01's list of forward branches; the others by the source's tests, in its order
 pub branchOf : Function → Bool → Float → Float → Branch
 branchOf D false x u = Forward
 branchOf D true x u = cond (le x f0) Forward (cond (le x f2) Downward Scaled)
 branchOf «V» false x u = cond (runsDown x u) Downward (cond (lt f7·5 x) Scaled Forward)
 branchOf «V» true x u = Forward
 
+-- value k in each branch
 pub valueIn : Branch → Function → Bool → Float → Float → Float → ℕ → ℕ → Float
 valueIn Forward fn below x u f n = rung fn below x f
 valueIn Downward fn below x u f n = downwardRung fn x u f n

@@ -42,6 +42,7 @@ pub smallLimit : Function → Float
 smallLimit D = f5·8
 smallLimit «V» = f7·5
 
+-- the start sum for an argument of this size (the source's `xa <= 5.8` and `xa <= 7.5`)
 pub startValue : Function → Float → Float → Float
 startValue fn x va = cond (le (absolute x) (smallLimit fn)) (startSum fn false x va) (startSum fn true x va)
 
@@ -75,6 +76,7 @@ startRungs fn below x f =
     cond (startsGaussian fn below f) (gaussian x, x ⊗ gaussian x)
     (cond (ownRungTwo fn below f) (startValue fn x f, rootTwoOverPi ⊗ growth x) (startValue fn x f, startValue fn x (nextOrder below f)))
 
+-- rung k of a forward branch: its own formula at 2 where it has one, and else a step
 pub nextRung : Function → Bool → Float → Float → ℕ → Float → Float → Float
 nextRung fn below x f k low high = cond (ownRungTwo fn below f && eqb k 2) (x ⊗ high) (step fn below x f k low high)
 
@@ -109,15 +111,18 @@ pub topRungs : Function → Float → Float → Float → ℕ → Float × Float
 topRungs D x u f n = (startSum D false x (neg (whole n) ⊕ f ⊕ f1), startSum D false x (neg (whole n) ⊕ f))
 topRungs «V» x u f n = (startSum «V» false x (u ⊖ f1), startSum «V» false x u)
 
+-- rung k below them
 pub downwardRung : Function → Float → Float → Float → ℕ → ℕ → Float
 downwardRung fn x u f n = descent fn x f (n - 1) (topRungs fn x u f n .0) (topRungs fn x u f n .1)
 
 -- ---- scaled: downward from 100 + n, with 0 and a seed in the place of the two rungs above
 
+-- the source's 1e-30 for D and 1e-40 for V
 pub seed : Function → Float
 seed D = seedD
 seed «V» = seedV
 
+-- rung k before the scaling: the seed stands at n + 101 and 0 at n + 102
 pub rawRung : Function → Float → Float → ℕ → ℕ → Float
 rawRung fn x f n = descent fn x f (n + 101) (seed fn) f0
 

@@ -11,7 +11,7 @@ use lib.Ieee.{Float, neg, isNan, ofBits}
 use Rattle.floats.specs.Operations.{bits, decimal, f0, f1}
 use Rattle.order.specs.Order.{f1000, tooLarge, below, shifted, fractionOf, topRung, num}
 use Rattle.order.specs.Order.Examples.{Parts, parts}
-use Rattle.order.proofs.Laws.{order-zero, order-one, order-two, order-minus-one, order-1000, order-999½, order-below-one}
+use Rattle.order.proofs.Laws.{order-zero, order-one, order-two, order-minus-one, order-1000, order-999½, order-below-one, order-tiny-below}
 use Rattle.start_sums.specs.Constants.{rootTwoOverPi}
 use Rattle.rungs.specs.declared.Function.{Function}
 use Rattle.rungs.specs.declared.Branch.the-variants.{Forward}
@@ -19,9 +19,9 @@ use Rattle.rungs.specs.Branches.{branchOf}
 use Rattle.rungs.specs.declared.Function.the-variants.{D, «V»}
 use Rattle.rungs.specs.Rungs.{rung, derivative}
 use Rattle.rungs.proofs.Laws.{value-forward, derivative-at, no-own-two}
-use Rattle.rungs.proofs.Values.{D-forward, D-rung-0, D-rung-1, D-rung-2, D-rung-3, D-derivative-0, D-derivative-1, D-derivative-2, V-forward, V-rung-1, V-rung-2, V-derivative-1}
+use Rattle.rungs.proofs.Values.{D-forward, D-rung-0, D-rung-1, D-rung-2, D-rung-3, D-derivative-0, D-derivative-1, D-derivative-2, V-forward, V-rung-0, V-rung-1, V-rung-2, V-derivative-0, V-derivative-1, V-own-two}
 use Rattle.columns.specs.Filled.{filled}
-use Rattle.columns.proofs.Tables.{plain-values}
+use Rattle.columns.proofs.Tables.{three-values, plain-values}
 use Rattle.tables.specs.Tables.{refusal, valueOf, derivativeOf, valuesWritten, tableAfter, answer}
 use Rattle.tables.specs.Tables.Open.{refusal-is, valueOf-is, derivativeOf-is, valuesWritten-is, tableAfter-is, answer-is}
 
@@ -164,3 +164,37 @@ belowOne = bits 0x3fef_ffff_ffff_ffff
 pub P12 : (shifted belowOne ≡ bits 0x4000_0000_0000_0000) × (topRung belowOne ≡ 2) × (num belowOne ≡ 3)
 unfolding parts
 P12 = (ap (λ (q : Parts). q .2) order-below-one, top belowOne _ order-below-one, columns belowOne _ order-below-one)
+
+-- ---- V writes value 2 at n = 1: at v = −2^−60 and x = 0, in a table of six slots, whatever they hold
+
+abbrev tiny : Float
+tiny = neg (bits 0x3c30_0000_0000_0000)
+
+tiny-values : valueOf «V» tiny f0 ≡ rung «V» true f0 f0
+tiny-values = values «V» true tiny _ order-tiny-below refl refl (V-forward f0)
+
+tiny-written : valuesWritten «V» tiny ≡ 3
+tiny-written =
+    valuesWritten-is «V» tiny
+    ∙ three-values «V» (below tiny) (fractionOf tiny) (topRung tiny) (rw (side tiny _ order-tiny-below, part tiny _ order-tiny-below) V-own-two) (top tiny _ order-tiny-below)
+
+tiny-derivative : derivativeOf «V» tiny f0 0 ≡ rootTwoOverPi
+tiny-derivative = derivatives «V» true tiny _ order-tiny-below refl refl (V-forward f0) 0 f0 rootTwoOverPi V-rung-0 V-rung-1 ∙ V-derivative-0
+
+pub own-two-table : (a b c d e f : Float)
+    → tableAfter «V» tiny f0 (a ∷ b ∷ c ∷ d ∷ e ∷ f ∷ []) ≡ f0 ∷ rootTwoOverPi ∷ f0 ∷ rootTwoOverPi ∷ e ∷ f ∷ []
+unfolding isNan ofBits neg filled
+own-two-table a b c d e f =
+    let l = a ∷ b ∷ c ∷ d ∷ e ∷ f ∷ [] in
+    tableAfter-is «V» tiny f0 l
+    ∙ rw (
+      refused-as tiny f0 6 _ order-tiny-below refl refl,
+      columns tiny _ order-tiny-below,
+      top tiny _ order-tiny-below,
+      tiny-written,
+      tiny-values,
+      V-rung-0,
+      V-rung-1,
+      V-rung-2,
+      tiny-derivative,
+    )

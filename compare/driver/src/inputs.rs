@@ -227,6 +227,12 @@ impl Draw {
         f64::from_bits(bits.wrapping_sub(4))
     }
 
+    /// At most four floats away from one of the numbers.
+    pub fn close_to_one_of(&mut self, numbers: &[f64]) -> f64 {
+        let one = self.below(numbers.len());
+        self.close(numbers[one])
+    }
+
     /// At most four floats away from a whole number below `size`.
     pub fn close_to_whole(&mut self, size: f64) -> f64 {
         let whole = self.uniform(size).trunc();

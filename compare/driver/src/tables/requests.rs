@@ -71,10 +71,7 @@ pub fn drawn(seed: u64) -> impl Iterator<Item = Request> {
 fn order(draw: &mut Draw, edges: &[f64]) -> f64 {
     match draw.below(32) {
         0 => draw.number(),
-        1..4 => {
-            let edge = draw.below(edges.len());
-            draw.close(edges[edge])
-        }
+        1..4 => draw.close_to_one_of(edges),
         4 => draw.tiny(),
         5..11 => draw.uniform(3.0),
         11..17 => draw.uniform(12.0),
@@ -90,10 +87,7 @@ fn order(draw: &mut Draw, edges: &[f64]) -> f64 {
 fn argument(draw: &mut Draw, edges: &[f64], v: f64) -> f64 {
     match draw.below(16) {
         0 => draw.number(),
-        1..3 => {
-            let edge = draw.below(edges.len());
-            draw.close(edges[edge])
-        }
+        1..3 => draw.close_to_one_of(edges),
         3 => draw.zero(),
         4 => draw.tiny(),
         5..7 => draw.uniform(2.0),

@@ -1,5 +1,7 @@
 //! The benchmark: time for each call of the library's function and of its reference.
 
+mod ladder;
+
 use std::hint::black_box;
 use std::time::{Duration, Instant};
 
@@ -13,8 +15,8 @@ const ROUND: Duration = Duration::from_millis(4);
 const ROUNDS: usize = 25;
 const SEED: u64 = 1;
 
-/// Prints the times of each function, over many inputs and at its points, and of each table call
-/// at its points.
+/// Prints the times of each function, over many inputs and at its points, of each table call at its
+/// points, and of the ladder.
 pub fn run<'a>(functions: impl Iterator<Item = &'a Function>, calls: &[Call]) {
     println!("ns per call, best of {ROUNDS} rounds: library, Rust, ratio");
     for function in functions {
@@ -29,6 +31,7 @@ pub fn run<'a>(functions: impl Iterator<Item = &'a Function>, calls: &[Call]) {
             print_times(&format!("{}({v}, {x})", call.name), table_times(call, v, x));
         }
     }
+    ladder::run();
 }
 
 fn print_times(name: &str, (library, reference): (f64, f64)) {

@@ -51,6 +51,38 @@ impl Comparable for u8 {
     }
 }
 
+/// A difference: the input and both sides as text.
+pub type Difference = (String, String);
+
+/// What a line is about, and its numbers.
+pub struct Line<'a> {
+    name: &'a str,
+    inputs: usize,
+    differences: usize,
+}
+
+impl<'a> Line<'a> {
+    pub fn new(name: &'a str) -> Self {
+        Line {
+            name,
+            inputs: 0,
+            differences: 0,
+        }
+    }
+
+    /// Counts an input, and prints its difference if it is among the first.
+    pub fn count(&mut self, difference: Option<Difference>) {
+        self.inputs += 1;
+        if let Some((input, sides)) = difference {
+            self.differences += 1;
+            if self.differences <= SHOWN {
+                println!("{} differs at {input}:", self.name);
+                println!("  {sides}");
+            }
+        }
+    }
+}
+
 /// What was compared so far.
 pub struct Tally {
     /// What is compared, and at what, in the lines printed.
@@ -61,18 +93,18 @@ pub struct Tally {
 }
 
 impl Tally {
-    pub fn of_functions() -> Self {
-        Self::new(["functions", "inputs"])
+    pub fn of_functions(functions: usize) -> Self {
+        Self::new(["functions", "inputs"], functions)
     }
 
-    pub fn of_calls() -> Self {
-        Self::new(["calls", "requests"])
+    pub fn of_calls(calls: usize) -> Self {
+        Self::new(["calls", "requests"], calls)
     }
 
-    fn new(words: [&'static str; 2]) -> Self {
+    fn new(words: [&'static str; 2], functions: usize) -> Self {
         Tally {
             words,
-            functions: 0,
+            functions,
             inputs: 0,
             differences: 0,
         }
@@ -94,28 +126,29 @@ impl Tally {
     }
 
     /// Counts the inputs at which there is a difference, and prints the line of what is compared.
-    /// A difference is the input and both sides as text.
     pub fn count<I>(
         &mut self,
         name: &str,
         inputs: impl Iterator<Item = I>,
-        difference: impl Fn(&I) -> Option<(String, String)>,
+        difference: impl Fn(&I) -> Option<Difference>,
     ) {
-        let (mut count, mut differences) = (0, 0);
+        let mut line = Line::new(name);
         for input in inputs {
-            count += 1;
-            if let Some((input, sides)) = difference(&input) {
-                differences += 1;
-                if differences <= SHOWN {
-                    println!("{name} differs at {input}:");
-                    println!("  {sides}");
-                }
-            }
+            line.count(difference(&input));
         }
-        let inputs = self.words[1];
-        println!("{name}: {count} {inputs}, {differences} differences");
-        self.functions += 1;
-        self.inputs += count;
+        self.add(&line);
+    }
+
+    /// Prints a line and adds its numbers.
+    pub fn add(&mut self, line: &Line) {
+        let Line {
+            name,
+            inputs,
+            differences,
+        } = line;
+        let words = self.words[1];
+        println!("{name}: {inputs} {words}, {differences} differences");
+        self.inputs += inputs;
         self.differences += differences;
     }
 
@@ -149,7 +182,7 @@ mod tests {
 
     #[test]
     fn differences_are_counted() {
-        let mut tally = Tally::of_functions();
+        let mut tally = Tally::of_functions(2);
         let inputs = || [0.0, -0.0, 1.0, -2.0].into_iter();
         tally.compare("abs", inputs(), |x| x.abs(), |x| x.abs());
         assert!(tally.finish("none differ"));
@@ -160,7 +193,7 @@ mod tests {
 
     #[test]
     fn calls_are_counted() {
-        let mut tally = Tally::of_calls();
+        let mut tally = Tally::of_calls(2);
         tally.count("none", 0..3, |_| None);
         assert!(tally.finish("none differ"));
         let odd = |i: &i32| (i % 2 == 1).then(|| (i.to_string(), "odd".into()));

@@ -7,6 +7,7 @@ mod entries;
 mod floats;
 mod functions;
 mod inputs;
+mod ladder;
 mod start_sums;
 mod store;
 mod tables;
@@ -28,7 +29,8 @@ const CRATES: [(&str, &[Function]); 3] = [
 
 const USAGE: &str = "\
 arguments: compare COUNT SEED | entries | store FOLDER | bench
-  COUNT   inputs for each function and requests for each table call, a whole number above 0
+  COUNT   inputs for each function, requests for each table call and for the ladder, a whole number
+          above 0
   SEED    of the random inputs and requests, a whole number below 2^64
   FOLDER  where the files of stored answers go";
 
@@ -57,21 +59,25 @@ fn usage() -> ExitCode {
     ExitCode::from(2)
 }
 
-/// Compares every library crate and the table calls. Gives whether there was no difference.
+/// Compares every library crate, the table calls and the ladder. Gives whether there was no
+/// difference.
 fn compare(count: usize, seed: u64) -> bool {
     let mut right = true;
     for (name, functions) in CRATES {
-        let mut tally = Tally::of_functions();
+        let mut tally = Tally::of_functions(functions.len());
         for function in functions {
             function.compare(&mut tally, count, seed);
         }
         right &= tally.finish(name);
     }
-    let mut tally = Tally::of_calls();
+    let mut tally = Tally::of_calls(tables::CALLS.len());
     for call in &tables::CALLS {
         call.compare(&mut tally, count, seed);
     }
-    right & tally.finish("tables")
+    right &= tally.finish("tables");
+    let mut tally = Tally::of_calls(ladder::CALLS);
+    ladder::compare(&mut tally, count, seed);
+    right & tally.finish("ladder")
 }
 
 /// Writes every file of stored answers. Gives whether all were written.

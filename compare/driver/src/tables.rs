@@ -11,7 +11,10 @@ mod tests;
 use crate::comparing::Tally;
 use crate::functions::Pair;
 use crate::inputs::Input;
-pub use split::needed;
+pub use edges::{arguments, square_at_order};
+pub use outcome::{Lent, MARGIN, number_difference, slot_difference, whole_difference};
+pub use requests::{Junk, argument};
+pub use split::{Split, needed};
 
 /// The library's calls.
 mod library {
@@ -37,16 +40,20 @@ type Side = fn(&Call, f64, f64, &mut [f64]) -> Answer;
 #[repr(C)]
 #[derive(Clone, Copy, Debug)]
 pub struct Answer {
-    refusal: u32,
-    value: f64,
-    derivative: f64,
+    pub refusal: u32,
+    pub value: f64,
+    pub derivative: f64,
 }
 
-/// The function tabulated, with a number for the seed.
+/// The function tabulated, with its number in the seed and in a ladder.
 #[derive(Clone, Copy, Debug, PartialEq)]
 pub enum Kind {
     D = 1,
     V = 2,
+}
+
+impl Kind {
+    pub const BOTH: [Kind; 2] = [Kind::D, Kind::V];
 }
 
 /// A table call of the library with its reference.
@@ -85,6 +92,14 @@ pub const CALLS: [Call; 2] = [
         points: &[(50.3, 5.0), (50.3, 20.0), (-50.3, 3.0), (-900.0, 1.0)],
     },
 ];
+
+/// The table call of a function.
+pub fn call(kind: Kind) -> &'static Call {
+    match kind {
+        Kind::D => &CALLS[0],
+        Kind::V => &CALLS[1],
+    }
+}
 
 impl Answer {
     fn refused(refusal: u32) -> Self {

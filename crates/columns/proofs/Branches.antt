@@ -124,3 +124,12 @@ module _ (fn : Function) (below : Bool) (x u f : Float) (n : ℕ) (l : List Floa
   pub columns-left : (d : List Float) → roomFor n (length l) (length d) ≡ false
       → (l ≡ valueColumn fn below x u f n l (length d)) × (d ≡ derivativeColumn fn below x u f n (length l) d)
   columns-left d room = (rw (valueColumn-is fn below x u f n l (length d), room), rw (derivativeColumn-is fn below x u f n (length l) d, room))
+
+  -- for the crates above: what both columns are where there is room
+  pub value-column-is : (derivatives : ℕ) → roomFor n (length l) derivatives ≡ true
+      → valueColumn fn below x u f n l derivatives ≡ filled (value fn below x u f n) 0 0 (n + 1) l
+  value-column-is derivatives room = rw (valueColumn-is fn below x u f n l derivatives, room)
+
+  pub derivative-column-is : (values : ℕ) → roomFor n values (length l) ≡ true
+      → derivativeColumn fn below x u f n values l ≡ filled (derivativeAt fn below x u f n) 0 0 n l
+  derivative-column-is values room = rw (derivativeColumn-is fn below x u f n values l, room)

@@ -6,8 +6,8 @@ use Prim.Native.Nat.{ℕ, zero, suc, _+_, _-_, _≤_, _<_}
 use native.Mathlib.Nat.{eq-or-lt-of-le, le-of-suc-le-suc, not-suc-le-zero, add-suc, add-zero}
 use native.Mathlib.Numerals.{add-one}
 use native.Mathlib.Omega.{arith}
-use lib.ListN.{length, getD, set, length-set}
-use lib.Seq.{getD-set-same, getD-set-other, ext-getD}
+use lib.ListN.{length, getD, set, take, length-set}
+use lib.Seq.{take-set-le, getD-set-same, getD-set-other, ext-getD}
 use Rattle.floats.proofs.Tests.{lt-or-ge}
 use Rattle.columns.specs.Filled.{filled}
 
@@ -45,6 +45,12 @@ module _ {A : Type 0} (value : ℕ → A) (from at : ℕ) where
   filled-out (suc n) l d k h =
       getD-set-other (filled value from at n l) (at + n) k (value (from + n)) d (λ q. ⊎-elim (λ b. omega arith) (λ a. omega (arith, add-suc at n)) h)
       ∙ filled-out n l d k (⊎-elim (λ b. inl b) (λ a. inr (omega (arith, add-suc at n))) h)
+
+  -- the slots below it
+  pub filled-above : (a n : ℕ) (l : List A) → a ≤ at → take a (filled value from at n l) ≡ take a l
+  unfolding filled
+  filled-above a zero l h = refl
+  filled-above a (suc n) l h = take-set-le a (filled value from at n l) (at + n) (value (from + n)) (omega arith) ∙ filled-above a n l h
 
   -- two stretches, one after the other, are one
   pub filled-on : (a b : ℕ) (l : List A) → filled value (from + a) (at + a) b (filled value from at a l) ≡ filled value from at (a + b) l

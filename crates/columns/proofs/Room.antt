@@ -30,6 +30,9 @@ module _ (n values derivatives : ℕ) where
   unfolding roomFor
   by-derivatives h g s = rw (le-leb 1 n h, le-leb n 1000 g, lt-ltb n values s)
 
+  pub room-for : 1 ≤ n → n ≤ 1000 → n < values → n ≤ derivatives → roomFor n values derivatives ≡ true
+  room-for h g s d = sym (by-derivatives h g s) ∙ le-leb n derivatives d
+
   pub room-facts : roomFor n values derivatives ≡ true → (1 ≤ n) × (n ≤ 1000) × (n < values) × (n ≤ derivatives)
   unfolding roomFor
   room-facts e =

@@ -1,6 +1,6 @@
 -- What the crates above may know of the split beside its contract and its facts. Assumes nothing.
-use mathlib.Core.Path.{_≡_, refl, ap, _∙_, subst}
-use mathlib.Core.Bool.{Bool, true, false, _&&_}
+use mathlib.Core.Path.{_≡_, refl, sym, ap, _∙_, subst}
+use mathlib.Core.Bool.{Bool, true, false, not, _&&_, true≢false}
 use mathlib.Core.List.{List}
 use Prim.Native.Nat.{ℕ, zero, suc, _+_, _*_, _^_, _≤_}
 use native.Mathlib.Nat.{mul-le-mul-right, eq-of-mul-eq-mul-right}
@@ -9,11 +9,12 @@ use lib.Dec.{T, ltb}
 use lib.Pow.{pow-pos}
 use lib.ListN.{getD}
 use lib.IntN.{pos, negℤ}
-use lib.Ieee.{Float, nan, binary64, low, neg, le, ofInt}
+use lib.Ieee.{Float, nan, inf, fin, binary64, low, neg, lt, le, isNan, ofInt, ofBits}
 use lib.Ieee.Order.{le-of-values}
 use Rattle.floats.specs.Operations.{_⊕_, float, whole, bits, decimal, f0, f½, f1}
 use Rattle.floats.proofs.Values.{cross}
-use Rattle.floats.proofs.Comparison.{float-le-trans}
+use Rattle.floats.specs.Functions.{absolute}
+use Rattle.floats.proofs.Comparison.{float-le-trans, float-lt-total}
 use Rattle.floats.proofs.Rounding.{round-neg}
 use Rattle.order.specs.Order.{f1000, tooLarge, num}
 use Rattle.order.specs.Order.Open.{num-is}
@@ -37,6 +38,35 @@ joined-below u f n m s = ap (λ (w : Float). w ⊕ f) (minus-whole n (s .least))
 
 pub num-least : (v : Float) → 3 ≤ num v
 num-least v = rw (num-is v) (omega arith)
+
+-- ---- the fraction is a number of a size below 1
+
+number-below-one : (f : Float) → lt (absolute f) f1 ≡ true → isNan f ≡ false
+unfolding isNan lt absolute
+number-below-one nan h = absurd (true≢false (sym h))
+number-below-one (inf s) h = refl
+number-below-one (fin s m e) h = refl
+
+size-is-number : (f : Float) → isNan f ≡ false → T (not (isNan (absolute f)))
+unfolding isNan absolute
+size-is-number nan h = absurd (true≢false h)
+size-is-number (inf s) h = tt
+size-is-number (fin s m e) h = tt
+
+one-is-number : T (not (isNan f1))
+unfolding isNan ofBits
+one-is-number = tt
+
+module _ (s : Bool) (u f : Float) (n m : ℕ) (facts : Split s u f n m) where
+  pub fraction-number : isNan f ≡ false
+  fraction-number = number-below-one f (facts .inside)
+
+  pub fraction-small : le f1 (absolute f) ≡ false
+  fraction-small = go (le f1 (absolute f)) (sym (float-lt-total (absolute f) f1 (size-is-number f fraction-number) one-is-number) ∙ facts .inside)
+    where
+      go : (b : Bool) → not b ≡ true → b ≡ false
+      go true h = absurd (true≢false (sym h))
+      go false h = refl
 
 -- ---- u rises with n, the fraction being the same
 

@@ -13,8 +13,8 @@ use Rattle.elementary.specs.Elementary.{exp}
 use Rattle.start_sums.specs.Constants.{quarter, rootTwoOverPi}
 use Rattle.rungs.specs.Rungs.{startSum, smallLimit, startValue, startsGaussian, ownRungTwo, nextOrder, startRungs}
 use Rattle.rungs.specs.Rungs.Open.{startValue-is, gaussian-is, growth-is, startRungs-is}
-use Rattle.rungs.specs.Branches.{orderIsLow, runsDown, branchOf}
-use Rattle.rungs.specs.Branches.Open.{branchOf-D-below, branchOf-V-above, orderIsLow-is, runsDown-is}
+use Rattle.rungs.specs.Branches.{orderIsLow, runsDown, branchOf, runsForward}
+use Rattle.rungs.specs.Branches.Open.{branchOf-D-below, branchOf-V-above, isForward-Forward, isForward-Downward, isForward-Scaled, orderIsLow-is, runsDown-is, runsForward-is}
 
 module _ (fn : Function) (x va : Float) where
   pub start-small : le (absolute x) (smallLimit fn) ≡ true → startSum fn false x va ≡ startValue fn x va
@@ -56,6 +56,18 @@ module _ (x u : Float) where
 
   pub v-forward : runsDown x u ≡ false → lt f7·5 x ≡ false → Forward ≡ branchOf «V» false x u
   v-forward s t = rw (branchOf-V-above x u, s, t)
+
+-- ---- whether a branch runs forward
+
+module _ (fn : Function) (s : Bool) (x u : Float) where
+  pub is-forward : branchOf fn s x u ≡ Forward → true ≡ runsForward fn s x u
+  is-forward e = rw (runsForward-is fn s x u, e, isForward-Forward)
+
+  pub is-downward : branchOf fn s x u ≡ Downward → false ≡ runsForward fn s x u
+  is-downward e = rw (runsForward-is fn s x u, e, isForward-Downward)
+
+  pub is-scaled : branchOf fn s x u ≡ Scaled → false ≡ runsForward fn s x u
+  is-scaled e = rw (runsForward-is fn s x u, e, isForward-Scaled)
 
 -- ---- the start rungs: e, a and b are what the calls give
 

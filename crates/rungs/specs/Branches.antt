@@ -29,6 +29,15 @@ branchOf D true x u = cond (le x f0) Forward (cond (le x f2) Downward Scaled)
 branchOf «V» false x u = cond (runsDown x u) Downward (cond (lt f7·5 x) Scaled Forward)
 branchOf «V» true x u = Forward
 
+-- whether the branch runs forward
+pub isForward : Branch → Bool
+isForward Forward = true
+isForward Downward = false
+isForward Scaled = false
+
+pub runsForward : Function → Bool → Float → Float → Bool
+runsForward fn below x u = isForward (branchOf fn below x u)
+
 -- value k in each branch
 pub valueIn : Branch → Function → Bool → Float → Float → Float → ℕ → ℕ → Float
 valueIn Forward fn below x u f n = rung fn below x f

@@ -2,7 +2,7 @@
 
 ghost use mathlib.Core.Path.{_≡_};
 ghost use Rattle.rungs.specs.declared.Function.the-variants.{D, «V»};
-ghost use Rattle.rungs.specs.Branches.{orderIsLow, runsDown, branchOf};
+ghost use Rattle.rungs.specs.Branches.{orderIsLow, runsDown, branchOf, runsForward};
 use crate::Branch;
 use crate::Function;
 use floats::abs;
@@ -69,5 +69,17 @@ pub fn branch_of(function: Function, below: bool, x: f64, u: f64) -> Branch
     match function {
         Function::D => branch_d(below, x, u),
         Function::V => branch_v(below, x, u),
+    }
+}
+
+// Whether the branch runs forward.
+pub fn runs_forward(function: Function, below: bool, x: f64, u: f64) -> bool
+    ensures { λ r. ⌜ r ≡ runsForward function below x u ⌝ }
+{
+    let branch = branch_of(function, below, x, u);
+    match branch {
+        Branch::Forward => true,
+        Branch::Downward => false,
+        Branch::Scaled => false,
     }
 }

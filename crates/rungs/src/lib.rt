@@ -6,6 +6,7 @@ mod recurrence;
 mod start;
 
 pub use branches::branch_of;
+pub use branches::runs_forward;
 pub use recurrence::derivative;
 pub use recurrence::rung_two;
 pub use recurrence::step;

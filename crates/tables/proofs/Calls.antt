@@ -7,7 +7,7 @@ use mathlib.Core.Bool.{Bool, true, false, _||_, cond}
 use Prim.Native.Nat.{ℕ, _+_, _-_, _*_, _≤_, _<_}
 use native.Mathlib.Nat.{zero-add}
 use native.Mathlib.Omega.{arith}
-use borrow.Author.Tests.{eq-eqb, ne-eqb, lt-ltb, le-ltb, ltb-false}
+use borrow.Author.Tests.{eq-eqb, ne-eqb, le-ltb, ltb-false}
 use lib.Dec.{ltb}
 use lib.ListN.{length}
 use lib.Ieee.{Float, nan, isNan}
@@ -20,34 +20,32 @@ use Rattle.columns.specs.Filled.{filled}
 use Rattle.columns.specs.Columns.{slot, valuesIn, bothColumns}
 use Rattle.columns.proofs.Room.{room-in}
 use Rattle.columns.proofs.Tables.{values-in, both-filled}
-use Rattle.tables.specs.Tables.{refusal, valueOf, derivativeOf, valuesWritten, tableAfter, answer}
-use Rattle.tables.specs.Tables.Open.{refusal-is, valueOf-is, derivativeOf-is, valuesWritten-is, tableAfter-is, answer-is}
+use Rattle.tables.specs.Tables.{refusalBy, refusal, valueOf, derivativeOf, valuesWritten, tableAfter, answer}
+use Rattle.tables.specs.Tables.Open.{refusalBy-is, refusal-is, valueOf-is, derivativeOf-is, valuesWritten-is, tableAfter-is, answer-is}
 use Rattle.columns.proofs.Filled.{length-filled, filled-in, filled-out}
 use Rattle.columns.proofs.Branches.{slot-filled}
 
 -- ---- the refusals, by the outcomes of the tests
 
-module _ (v x : Float) (slots : ℕ) where
-  pub refused-order : isNan v ≡ true → 1 ≡ refusal v x slots
-  refused-order a = rw (refusal-is v x slots, a)
+module _ (v x : Float) (short : Bool) where
+  pub refused-order : isNan v ≡ true → 1 ≡ refusalBy v x short
+  refused-order a = rw (refusalBy-is v x short, a)
 
-  pub refused-argument : isNan v ≡ false → isNan x ≡ true → 1 ≡ refusal v x slots
-  refused-argument a b = rw (refusal-is v x slots, a, b)
+  pub refused-argument : isNan v ≡ false → isNan x ≡ true → 1 ≡ refusalBy v x short
+  refused-argument a b = rw (refusalBy-is v x short, a, b)
 
-  pub refused-size : isNan v ≡ false → isNan x ≡ false → tooLarge v ≡ true → 2 ≡ refusal v x slots
-  refused-size a b c = rw (refusal-is v x slots, a, b, c)
+  pub refused-size : isNan v ≡ false → isNan x ≡ false → tooLarge v ≡ true → 2 ≡ refusalBy v x short
+  refused-size a b c = rw (refusalBy-is v x short, a, b, c)
 
-  pub refused-short : isNan v ≡ false → isNan x ≡ false → tooLarge v ≡ false → slots < 2 * num v → 3 ≡ refusal v x slots
-  refused-short a b c d = rw (refusal-is v x slots, a, b, c, lt-ltb slots (2 * num v) d)
+  pub refused-short : isNan v ≡ false → isNan x ≡ false → tooLarge v ≡ false → short ≡ true → 3 ≡ refusalBy v x short
+  refused-short a b c d = rw (refusalBy-is v x short, a, b, c, d)
 
-  pub not-refused : isNan v ≡ false → isNan x ≡ false → tooLarge v ≡ false → 2 * num v ≤ slots → 0 ≡ refusal v x slots
-  not-refused a b c d = rw (refusal-is v x slots, a, b, c, le-ltb slots (2 * num v) d)
+  pub not-refused : isNan v ≡ false → isNan x ≡ false → tooLarge v ≡ false → short ≡ false → 0 ≡ refusalBy v x short
+  not-refused a b c d = rw (refusalBy-is v x short, a, b, c, d)
 
   -- a request that is not refused
-  pub accepted : refusal v x slots ≡ 0 → (isNan v ≡ false) × (isNan x ≡ false) × (tooLarge v ≡ false) × (2 * num v ≤ slots)
-  accepted e =
-      let p = passed (isNan v) (isNan x) (tooLarge v) (ltb slots (2 * num v)) (sym (refusal-is v x slots) ∙ e) in
-      (p .0, p .1, p .2, ltb-false slots (2 * num v) (p .3))
+  pub accepted-by : refusalBy v x short ≡ 0 → (isNan v ≡ false) × (isNan x ≡ false) × (tooLarge v ≡ false) × (short ≡ false)
+  accepted-by e = passed (isNan v) (isNan x) (tooLarge v) short (sym (refusalBy-is v x short) ∙ e)
     where
       passed : (a b c d : Bool) → _≡_ {A = ℕ} (cond (a || b) 1 (cond c 2 (cond d 3 0))) 0 → (a ≡ false) × (b ≡ false) × (c ≡ false) × (d ≡ false)
       passed true b c d e = absurd (omega arith)
@@ -55,6 +53,27 @@ module _ (v x : Float) (slots : ℕ) where
       passed false false true d e = absurd (omega arith)
       passed false false false true e = absurd (omega arith)
       passed false false false false e = (refl, refl, refl, refl)
+
+module _ (v x : Float) (slots : ℕ) where
+  pub refusal-short : refusalBy v x (ltb slots (2 * num v)) ≡ refusal v x slots
+  refusal-short = sym (refusal-is v x slots)
+
+  pub not-refused-long : isNan v ≡ false → isNan x ≡ false → tooLarge v ≡ false → 2 * num v ≤ slots → refusal v x slots ≡ 0
+  not-refused-long a b c d = sym (not-refused v x (ltb slots (2 * num v)) a b c (le-ltb slots (2 * num v) d) ∙ refusal-short)
+
+  pub accepted : refusal v x slots ≡ 0 → (isNan v ≡ false) × (isNan x ≡ false) × (tooLarge v ≡ false) × (2 * num v ≤ slots)
+  accepted e =
+      let p = accepted-by v x (ltb slots (2 * num v)) (refusal-short ∙ e) in
+      (p .0, p .1, p .2, ltb-false slots (2 * num v) (p .3))
+
+-- ---- its rungs, by the parts of its order
+
+module _ (fn : Function) (v x : Float) where
+  pub value-is : valueOf fn v x ≡ value fn (below v) x (shifted v) (fractionOf v) (topRung v)
+  value-is = valueOf-is fn v x
+
+  pub derivative-is : derivativeOf fn v x ≡ derivativeAt fn (below v) x (shifted v) (fractionOf v) (topRung v)
+  derivative-is = derivativeOf-is fn v x
 
 -- ---- the whole call: the table after it, and its answer
 
@@ -77,6 +96,12 @@ module _ (fn : Function) (v x : Float) (l : List Float) where
 
     pub answer-accepted : answer fn v x (length l) ≡ some (valueOf fn v x (topRung v - 1), derivativeOf fn v x (topRung v - 1))
     answer-accepted = rw (answer-is fn v x (length l), eq-eqb (refusal v x (length l)) 0 ok)
+
+    pub table-keeps : length (tableAfter fn v x l) ≡ length l
+    table-keeps =
+        rw after-accepted
+        (length-filled (derivativeOf fn v x) 0 (num v) (topRung v) (filled (valueOf fn v x) 0 0 (valuesWritten fn v) l)
+        ∙ length-filled (valueOf fn v x) 0 0 (valuesWritten fn v) l)
 
     -- its slots
     pub value-slot : (k : ℕ) → k ≤ topRung v → slot (tableAfter fn v x l) k ≡ valueOf fn v x k
@@ -103,7 +128,7 @@ module _ (fn : Function) (v x : Float) (l : List Float) where
         let in-room = room-in (topRung v) (num v) (length l) (facts .least) (facts .most) (facts .room) (num-least v) room in
         let both : l1 ≡ filled (derivativeAt fn (below v) x (shifted v) (fractionOf v) (topRung v)) 0 (num v) (topRung v) (filled (value fn (below v) x (shifted v) (fractionOf v) (topRung v)) 0 0 (valuesIn fn (below v) (fractionOf v) (topRung v)) l) =
         e1 ∙ rw (es, eu, ef, en, em) (both-filled fn (below v) x (shifted v) (fractionOf v) (topRung v) (num v) l in-room) in
-        let after : l1 ≡ tableAfter fn v x l = both ∙ rw (after-accepted, derivativeOf-is fn v x, valueOf-is fn v x, valuesWritten-is fn v) in
+        let after : l1 ≡ tableAfter fn v x l = both ∙ rw (after-accepted, derivative-is fn v x, value-is fn v x, valuesWritten-is fn v) in
         let low : slot l1 (n - 1) ≡ valueOf fn v x (topRung v - 1) = rw (after, en) (value-slot (topRung v - 1) (omega (arith, facts .least))) in
         let high : slot l1 (m + (n - 1)) ≡ derivativeOf fn v x (topRung v - 1) =
         rw (after, en, em) (derivative-slot (topRung v - 1) (omega (arith, facts .least))) in

@@ -19,10 +19,10 @@ use Rattle.columns.specs.Columns.{slot}
 use Rattle.tables.specs.Tables.{refusal, valueOf, derivativeOf, valuesWritten, tableAfter}
 use Rattle.tables.specs.Tables.Open.{valuesWritten-is}
 use Rattle.tables.specs.Slots.{Slots, Untouched}
-use Rattle.columns.proofs.Filled.{length-filled, filled-out}
+use Rattle.columns.proofs.Filled.{filled-out}
 use Rattle.columns.proofs.Branches.{slot-filled}
 use Rattle.columns.proofs.Tables.{three-values}
-use Rattle.tables.proofs.Calls.{accepted, left-as-found, after-accepted, answer-accepted, value-slot, derivative-slot}
+use Rattle.tables.proofs.Calls.{accepted, left-as-found, after-accepted, answer-accepted, table-keeps, value-slot, derivative-slot}
 
 module _ (fn : Function) (v x : Float) (l : List Float) where
   -- A REFUSAL changes nothing
@@ -57,10 +57,7 @@ module _ (fn : Function) (v x : Float) (l : List Float) where
     -- THE SLOTS of an accepted request
     pub slots : Slots fn v x l
     slots = record {
-      same-length =
-          rw (after-accepted fn v x l ok facts)
-          (length-filled (derivativeOf fn v x) 0 (num v) (topRung v) (filled (valueOf fn v x) 0 0 (valuesWritten fn v) l)
-          ∙ length-filled (valueOf fn v x) 0 0 (valuesWritten fn v) l);
+      same-length = table-keeps fn v x l ok facts;
       values = value-slot fn v x l ok facts;
       derivatives = derivative-slot fn v x l ok facts;
       own-two = two;

@@ -23,7 +23,7 @@ use Rattle.rungs.proofs.Values.{D-forward, D-rung-0, D-rung-1, D-rung-2, D-rung
 use Rattle.columns.specs.Filled.{filled}
 use Rattle.columns.proofs.Tables.{three-values, plain-values}
 use Rattle.tables.specs.Tables.{refusal, valueOf, derivativeOf, valuesWritten, tableAfter, answer}
-use Rattle.tables.specs.Tables.Open.{refusal-is, valueOf-is, derivativeOf-is, valuesWritten-is, tableAfter-is, answer-is}
+use Rattle.tables.specs.Tables.Open.{refusalBy-is, refusal-is, valueOf-is, derivativeOf-is, valuesWritten-is, tableAfter-is, answer-is}
 
 -- ---- the parts of an order that was computed
 
@@ -67,7 +67,7 @@ module _ (fn : Function) (s : Bool) (v : Float) (p : Parts) (e : parts v ≡ p) 
 
 module _ (v x : Float) (slots : ℕ) (p : Parts) (e : parts v ≡ p) (number : isNan v ≡ false) (argument : isNan x ≡ false) where
   refused-as : refusal v x slots ≡ cond (p .0) 2 (cond (ltb slots (2 * (p .5))) 3 0)
-  refused-as = rw (refusal-is v x slots, number, argument, large v p e, columns v p e)
+  refused-as = rw (refusal-is v x slots, refusalBy-is v x (ltb slots (2 * num v)), number, argument, large v p e, columns v p e)
 
   -- the answer of one that is not
   answered-as : (fn : Function) → _≡_ {A = ℕ} (cond (p .0) 2 (cond (ltb slots (2 * (p .5))) 3 0)) 0 → answer fn v x slots ≡ some (valueOf fn v x (p .4 - 1), derivativeOf fn v x (p .4 - 1))
@@ -148,7 +148,7 @@ P8 =
 
 pub P9 : (x : Float) (slots : ℕ) → isNan x ≡ false → refusal f1000 x slots ≡ 2
 unfolding isNan ofBits
-P9 x slots number = rw (refusal-is f1000 x slots, number, order-1000 .0)
+P9 x slots number = rw (refusal-is f1000 x slots, refusalBy-is f1000 x (ltb slots (2 * num f1000)), number, order-1000 .0)
 
 -- ---- P10: v = 999.5 needs 2004 slots
 

@@ -2,8 +2,8 @@
 -- of the table that was lent.
 use mathlib.Core.List.{List}
 use mathlib.Core.Option.{Option, some, none}
-use Prim.Native.Nat.{ℕ, _+_, _-_, _*_}
-use mathlib.Core.Bool.{_||_, cond}
+use Prim.Native.Nat.{ℕ, _-_, _*_}
+use mathlib.Core.Bool.{Bool, _||_, cond}
 use lib.Dec.{eqb, ltb}
 use lib.ListN.{length}
 use lib.Ieee.{Float, isNan}
@@ -28,9 +28,13 @@ pairOf (Refused number) = none
 
 -- ---- a request: a function, an order v, an argument x, and a table
 
--- the refusals, by rising number: a NaN, the size of v, a table below 2·num slots
+-- the refusals of tables and ladder, by rising number: a NaN, the size of v, a table that is too short
+pub refusalBy : Float → Float → Bool → ℕ
+refusalBy v x short = cond (isNan v || isNan x) 1 (cond (tooLarge v) 2 (cond short 3 0))
+
+-- the table call's: a table below 2·num slots is too short
 pub refusal : Float → Float → ℕ → ℕ
-refusal v x slots = cond (isNan v || isNan x) 1 (cond (tooLarge v) 2 (cond (ltb slots (2 * num v)) 3 0))
+refusal v x slots = refusalBy v x (ltb slots (2 * num v))
 
 -- value k and derivative k. They stand at the slots k and num + k.
 pub valueOf : Function → Float → Float → ℕ → Float

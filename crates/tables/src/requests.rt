@@ -5,15 +5,15 @@ ghost use mathlib.Core.Option.{some};
 ghost use Prim.Native.Nat.{_+_, _-_, _≤_};
 ghost use lib.ListN.{length};
 ghost use Rattle.columns.specs.Columns.{slot};
-ghost use Rattle.tables.specs.Tables.{refusalOf, pairOf, refusal, tableAfter, answer};
+ghost use Rattle.tables.specs.Tables.{refusalOf, pairOf, refusalBy, refusal, tableAfter, answer};
 use crate::Answer;
 use floats::is_nan;
 use order::Rung;
 use rungs::Function;
 
-// The number of a request's refusal, 0 where there is none.
-fn refusal(v: f64, x: f64, slots: usize) -> u8
-    ensures { λ r. ⌜ r ≡ refusal v x slots ⌝ }
+// The number of a request's refusal, 0 where there is none; `short` says whether a table is too short for it.
+pub fn refusal_by(v: f64, x: f64, short: bool) -> u8
+    ensures { λ r. ⌜ r ≡ refusalBy v x short ⌝ }
 {
     if is_nan(v) {
         return 1;
@@ -24,7 +24,7 @@ fn refusal(v: f64, x: f64, slots: usize) -> u8
     if order::too_large(v) {
         return 2;
     }
-    if slots < 2 * order::num(v) as usize {
+    if short {
         return 3;
     }
     0
@@ -48,12 +48,12 @@ pub fn table(function: Function, v: f64, x: f64, t: &mut [f64]) -> Answer
     ensures pair { λ r. ⌜ pairOf r ≡ answer function v x (length (now (t .entry))) ⌝ }
     ensures after { λ _. ⌜ now (t .exit) ≡ tableAfter function v x (now (t .entry)) ⌝ }
 {
-    let number = refusal(v, x, t.len());
+    let num = order::num(v);
+    let number = refusal_by(v, x, t.len() < 2 * num as usize);
     if number != 0 {
         return Answer::Refused(number);
     }
     let o = order::split(v);
-    let num = order::num(v);
     let n = o.n;
     columns::fill_table(t, function, o.below, x, o.u, o.f, n, num);
     pair_at(t, n, num)

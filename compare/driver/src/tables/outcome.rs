@@ -2,30 +2,29 @@
 
 use source::entry::alloc_buf;
 
-use super::requests::Request;
+use super::requests::{Junk, Request};
 use super::split::{Split, needed};
 use super::{Answer, Call};
-use crate::comparing::Comparable;
+use crate::comparing::{Comparable, Difference};
 
 /// Slots on either side of a table that are not lent.
 pub const MARGIN: usize = 8;
 
 /// A lent table and the slots around it.
-#[derive(Clone)]
+#[derive(Clone, Default)]
 pub struct Lent {
     pub slots: Vec<f64>,
     pub length: usize,
 }
 
 impl Lent {
-    /// All slots hold the request's junk. There are as many as the order needs also where fewer are
-    /// lent, so that a call that does not test the length stays within them.
-    pub fn new(request: &Request) -> Self {
-        let many = request.length.max(needed(request.v)) + 2 * MARGIN;
-        Lent {
-            slots: (0..many).map(|k| request.junk.slot(k)).collect(),
-            length: request.length,
-        }
+    /// Lends as many slots as `length`, with junk in those that were not there before. There are as
+    /// many as the order needs also where fewer are lent, so that a call that does not test the
+    /// length stays within them.
+    pub fn lend(&mut self, length: usize, needed: usize, junk: Junk) {
+        let (there, many) = (self.slots.len(), length.max(needed) + 2 * MARGIN);
+        self.slots.extend((there..many).map(|k| junk.slot(k)));
+        self.length = length;
     }
 
     /// The table's first slot, for a call that may go beyond the table.
@@ -71,8 +70,9 @@ impl Call {
         &self,
         request: &Request,
         library: impl FnOnce(f64, f64, &mut Lent) -> Answer,
-    ) -> Option<(String, String)> {
-        let found = Lent::new(request);
+    ) -> Option<Difference> {
+        let mut found = Lent::default();
+        found.lend(request.length, needed(request.v), request.junk);
         let mut left = found.clone();
         let answer = library(request.v, request.x, &mut left);
         let expected = self.expected(request.v, request.x, request.length);
@@ -83,21 +83,28 @@ impl Call {
 }
 
 fn answer_difference(ours: &Answer, rust: &Answer) -> Option<String> {
-    if ours.refusal != rust.refusal {
-        let (ours, rust) = (ours.refusal, rust.refusal);
-        return Some(format!("refusal: library {ours}, Rust {rust}"));
-    }
     let numbers = [
         ("value", ours.value, rust.value),
         ("derivative", ours.derivative, rust.derivative),
     ];
+    whole_difference("refusal", ours.refusal, rust.refusal).or_else(|| number_difference(numbers))
+}
+
+pub fn whole_difference(name: &str, ours: u32, rust: u32) -> Option<String> {
+    (ours != rust).then(|| format!("{name}: library {ours}, Rust {rust}"))
+}
+
+/// The first number that is wrong, of names with the library's number and the Rust's.
+pub fn number_difference<N: AsRef<str>>(
+    numbers: impl IntoIterator<Item = (N, f64, f64)>,
+) -> Option<String> {
     let (name, ours, rust) = numbers.into_iter().find(|(_, a, b)| !a.alike(b))?;
-    Some(sides(name, ours, "Rust", rust))
+    Some(sides(name.as_ref(), ours, "Rust", rust))
 }
 
 /// The first slot that is wrong. A slot that must stay as found has to have the same bits. Slots
 /// before the table have numbers below 0.
-fn slot_difference(found: &[f64], left: &[f64], expected: &[Option<f64>]) -> Option<String> {
+pub fn slot_difference(found: &[f64], left: &[f64], expected: &[Option<f64>]) -> Option<String> {
     for (i, (found, left)) in found.iter().zip(left).enumerate() {
         let place = i.checked_sub(MARGIN);
         let written = place.and_then(|k| expected.get(k).copied().flatten());

@@ -84,7 +84,7 @@ fn order(draw: &mut Draw, edges: &[f64]) -> f64 {
     }
 }
 
-fn argument(draw: &mut Draw, edges: &[f64], v: f64) -> f64 {
+pub fn argument(draw: &mut Draw, edges: &[f64], v: f64) -> f64 {
     match draw.below(16) {
         0 => draw.number(),
         1..3 => draw.close_to_one_of(edges),

@@ -11,7 +11,7 @@ use Rattle.rungs.specs.declared.Function.the-variants.{D, «V»}
 use Rattle.rungs.specs.declared.Branch.the-variants.{Forward, Downward, Scaled}
 use Rattle.rungs.specs.Constants.{f7·5, f10}
 use Rattle.rungs.specs.Rungs.{rung, downwardRung, scaledRung, derivative}
-use Rattle.rungs.specs.Branches.{orderIsLow, runsDown, branchOf, valueIn, value, derivativeAt}
+use Rattle.rungs.specs.Branches.{orderIsLow, runsDown, branchOf, isForward, runsForward, valueIn, value, derivativeAt}
 
 pub orderIsLow-is : (x : Float) (u : Float) → orderIsLow x u ≡ (le (absolute x) f10 && le u (f½ ⊗ x ⊗ x))
 unfolding orderIsLow
@@ -36,6 +36,22 @@ branchOf-V-above x u = refl
 pub branchOf-V-below : (x : Float) (u : Float) → branchOf «V» true x u ≡ Forward
 unfolding branchOf
 branchOf-V-below x u = refl
+
+pub isForward-Forward : isForward Forward ≡ true
+unfolding isForward
+isForward-Forward = refl
+
+pub isForward-Downward : isForward Downward ≡ false
+unfolding isForward
+isForward-Downward = refl
+
+pub isForward-Scaled : isForward Scaled ≡ false
+unfolding isForward
+isForward-Scaled = refl
+
+pub runsForward-is : (fn : Function) (below : Bool) (x : Float) (u : Float) → runsForward fn below x u ≡ isForward (branchOf fn below x u)
+unfolding runsForward
+runsForward-is fn below x u = refl
 
 pub valueIn-Forward : (fn : Function) (below : Bool) (x : Float) (u : Float) (f : Float) (n : ℕ) → valueIn Forward fn below x u f n ≡ rung fn below x f
 unfolding valueIn

@@ -3,7 +3,7 @@ use mathlib.Core.Path.{_≡_, refl}
 use mathlib.Core.List.{List}
 use mathlib.Core.Option.{some, none}
 use Prim.Native.Nat.{ℕ, _-_, _*_}
-use mathlib.Core.Bool.{_||_, cond}
+use mathlib.Core.Bool.{Bool, _||_, cond}
 use lib.Dec.{eqb, ltb}
 use lib.ListN.{length}
 use lib.Ieee.{Float, isNan}
@@ -12,9 +12,13 @@ use Rattle.rungs.specs.declared.Function.{Function}
 use Rattle.rungs.specs.Branches.{value, derivativeAt}
 use Rattle.columns.specs.Filled.{filled}
 use Rattle.columns.specs.Columns.{valuesIn}
-use Rattle.tables.specs.Tables.{refusal, valueOf, derivativeOf, valuesWritten, tableAfter, answer}
+use Rattle.tables.specs.Tables.{refusalBy, refusal, valueOf, derivativeOf, valuesWritten, tableAfter, answer}
 
-pub refusal-is : (v x : Float) (slots : ℕ) → refusal v x slots ≡ cond (isNan v || isNan x) 1 (cond (tooLarge v) 2 (cond (ltb slots (2 * num v)) 3 0))
+pub refusalBy-is : (v x : Float) (short : Bool) → refusalBy v x short ≡ cond (isNan v || isNan x) 1 (cond (tooLarge v) 2 (cond short 3 0))
+unfolding refusalBy
+refusalBy-is v x short = refl
+
+pub refusal-is : (v x : Float) (slots : ℕ) → refusal v x slots ≡ refusalBy v x (ltb slots (2 * num v))
 unfolding refusal
 refusal-is v x slots = refl
 

@@ -1,12 +1,11 @@
--- `tables::requests::refusal` meets its contract: each return has the outcomes of the tests before it.
+-- `tables::requests::refusal_by` meets its contract: each return has the outcomes of the tests before it.
 use mathlib.Core.Path.{_≡_, sym, _∙_}
 use mathlib.Core.Bool.{false}
-use native.Mathlib.Omega.{arith}
 use lib.Ieee.{isNan}
 use Rattle.order.specs.Order.{tooLarge}
 use Rattle.tables.proofs.Calls.{refused-order, refused-argument, refused-size, refused-short, not-refused}
-use Rattle.tables.proofs.requests.refusal.Statement.{statement}
-use Rattle.tables.proofs.requests.refusal.Tie as tie
+use Rattle.tables.proofs.requests.refusal_by.Statement.{statement}
+use Rattle.tables.proofs.requests.refusal_by.Tie as tie
 
 -- v is a number, x is one, and v is not too large
 order-is-number : (c : tie.Else1) → isNan (c .before .before .args .v) ≡ false
@@ -18,8 +17,8 @@ argument-is-number c = sym (c .before .is-nan2 .ensures) ∙ c .if2 .left
 order-is-small : (c : tie.Else3) → tooLarge (c .before .before .before .before .before .before .args .v) ≡ false
 order-is-small c = sym (c .before .too-large .ensures) ∙ c .if3 .left
 
-pub refusal-spec : {M : Type 1} → statement M
-refusal-spec =
+pub refusal-by-spec : {M : Type 1} → statement M
+refusal-by-spec =
     tie.close
     (tie.spec
     (λ c κs. tt)
@@ -30,14 +29,11 @@ refusal-spec =
     (λ c.
     let b = c .before .before in
     refused-size _ _ _ (order-is-number (b .before .before)) (argument-is-number b) (sym (c .before .too-large .ensures) ∙ c .if3 .taken))
-    (λ c κs. tt)
-    (λ c. omega arith)
-    (λ c. omega arith)
     (λ c.
-    let s = c .before .before in
+    let s = c .before in
     let b = s .before .before in
-    refused-short _ _ _ (order-is-number (b .before .before)) (argument-is-number b) (order-is-small s) (rw (c .before .num .ensures) at (c .if4 .taken)))
+    refused-short _ _ _ (order-is-number (b .before .before)) (argument-is-number b) (order-is-small s) (c .if4 .taken))
     (λ c.
-    let s = c .before .before in
+    let s = c .before in
     let b = s .before .before in
-    not-refused _ _ _ (order-is-number (b .before .before)) (argument-is-number b) (order-is-small s) (rw (c .before .num .ensures) at (c .if4 .left))))
+    not-refused _ _ _ (order-is-number (b .before .before)) (argument-is-number b) (order-is-small s) (c .if4 .left)))

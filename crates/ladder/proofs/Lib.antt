@@ -1,0 +1,3 @@
+pub mod Climbs
+pub mod Starts
+pub mod Outcomes

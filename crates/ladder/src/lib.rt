@@ -1,0 +1,96 @@
+// The ladder: a state that is held between requests and climbs when a higher order comes. Its tables are lent by the caller, of any length and content. No
+// public function has a condition: each answers every input.
+
+mod actions;
+mod climbing;
+mod reader;
+
+ghost use mathlib.Core.Path.{_≡_};
+ghost use mathlib.Core.Bool.{true};
+ghost use Rattle.rungs.specs.declared.Function.the-variants.{D, «V»};
+ghost use Rattle.machine.specs.Machine.{asks};
+ghost use Rattle.machine.specs.Held.{countsEmpty};
+ghost use Rattle.ladder.specs.Ladder.{heldIn, givenBy, outcome, requested};
+use actions::act;
+use actions::held_in;
+use order::Rung;
+pub use reader::read_column;
+use rungs::Function;
+use tables::Answer;
+
+// The state: function, side (v < 0 or not), argument, fraction of the order, n, and the values of rungs n - 1 and n. It is empty where n is 0.
+pub struct Ladder {
+    pub function: Function,
+    pub below: bool,
+    pub x: f64,
+    pub f: f64,
+    pub n: Rung,
+    pub low: f64,
+    pub high: f64,
+}
+
+// How many rungs a request wrote; a refusal has no count.
+pub enum Written {
+    Count(Rung),
+    Nothing,
+}
+
+// What a request gives: the next state, the answer, and the written count.
+pub struct Reply {
+    pub state: Ladder,
+    pub answer: Answer,
+    pub written: Written,
+}
+
+// One of the two tables.
+pub enum Column {
+    Values,
+    Derivatives,
+}
+
+impl Ladder {
+    // A ladder that holds nothing.
+    pub fn empty() -> Ladder
+        ensures { λ r. ⌜ countsEmpty (heldIn r) ≡ true ⌝ }
+    {
+        Ladder {
+            function: Function::D,
+            below: false,
+            x: 0.0,
+            f: 0.0,
+            n: 0,
+            low: 0.0,
+            high: 0.0,
+        }
+    }
+
+    // A request of either function: judged, and then acted on.
+    pub fn request(
+        self,
+        function: Function,
+        v: f64,
+        x: f64,
+        values: &mut [f64],
+        derivatives: &mut [f64],
+    ) -> Reply
+        ensures { λ r. ⌜ outcome (givenBy r) (now (values .exit)) (now (derivatives .exit)) ≡ requested self (asks function v x) (now (values .entry)) (now (derivatives .entry)) ⌝ }
+    {
+        let held = held_in(self);
+        let judgement = machine::judge(held, function, v, x, values.len(), derivatives.len());
+        act(values, derivatives, self, judgement, function, v, x)
+    }
+
+    // D at order v and argument x.
+    pub fn d(self, v: f64, x: f64, values: &mut [f64], derivatives: &mut [f64]) -> Reply
+        ensures { λ r. ⌜ outcome (givenBy r) (now (values .exit)) (now (derivatives .exit)) ≡ requested self (asks D v x) (now (values .entry)) (now (derivatives .entry)) ⌝ }
+    {
+        self.request(Function::D, v, x, values, derivatives)
+    }
+
+    // V at order v and argument x.
+    pub fn v(self, v: f64, x: f64, values: &mut [f64], derivatives: &mut [f64]) -> Reply
+        ensures { λ r. ⌜ outcome (givenBy r) (now (values .exit)) (now (derivatives .exit)) ≡ requested self (asks «V» v x) (now (values .entry)) (now (derivatives .entry)) ⌝ }
+    {
+        self.request(Function::V, v, x, values, derivatives)
+    }
+}

@@ -1,0 +1,18 @@
+-- `machine::cases::may_climb` meets its contract: a higher n, two rungs held, a forward branch.
+use mathlib.Core.Path.{_∙_}
+use Rattle.machine.proofs.Tests.{not-higher, below-two, by-branch}
+use Rattle.machine.proofs.cases.may_climb.Statement.{statement}
+use Rattle.machine.proofs.cases.may_climb.Tie as tie
+
+pub may-climb-spec : {M : Type 1} → statement M
+may-climb-spec =
+    tie.close
+    (tie.spec
+    (λ c. not-higher _ _ _ _ _ _ (c .if1 .taken))
+    (λ c. below-two _ _ _ _ _ _ (c .before .before .if1 .left) (c .if2 .taken))
+    (λ c. tt)
+    (λ c κs. tt)
+    (λ c.
+    let known = c .before .struct-known4 .given in
+    let n = c .before .before .before in
+    c .runs-forward .ensures ∙ by-branch _ _ _ _ _ _ (known .1 .1 .0) (known .1 .1 .1 .0) (n .before .before .if1 .left) (n .if2 .left)))

@@ -7,7 +7,9 @@ ghost use lib.Ieee.{isNan, toSigned};
 ghost use Rattle.floats.specs.Functions.{alike, absolute, infinite, truncated, fraction, lesser, greater, signOf};
 ghost use Rattle.elementary.specs.Elementary.{exp, exp2, expM1, ln, power, sin, cos};
 ghost use Rattle.roots.specs.SquareRoot.{squareRoot};
-ghost use Rattle.start_sums.specs.StartSums.{gamma2, dvsa, dvla, vvsa, vvla};
+ghost use Rattle.gamma.specs.Gamma.{gamma2};
+ghost use Rattle.small_sums.specs.SmallSums.{dvsa, vvsa};
+ghost use Rattle.start_sums.specs.StartSums.{dvla, vvla};
 
 #[no_mangle]
 pub extern "C" fn compared_abs(x: f64) -> f64
@@ -139,7 +141,7 @@ pub extern "C" fn compared_square_root(x: f64) -> f64
 pub extern "C" fn compared_gamma2(x: f64) -> f64
     ensures { λ r. ⌜ r ≡ gamma2 x ⌝ }
 {
-    start_sums::gamma2(x)
+    gamma::gamma2(x)
 }
 
 #[no_mangle]

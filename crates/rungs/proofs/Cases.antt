@@ -10,7 +10,8 @@ use Rattle.rungs.specs.declared.Function.the-variants.{D, «V»}
 use Rattle.rungs.specs.declared.Branch.the-variants.{Forward, Downward, Scaled}
 use Rattle.rungs.specs.Constants.{f7·5, f10}
 use Rattle.elementary.specs.Elementary.{exp}
-use Rattle.start_sums.specs.Constants.{quarter, rootTwoOverPi}
+use Rattle.small_sums.specs.Constants.{quarter}
+use Rattle.start_sums.specs.Constants.{rootTwoOverPi}
 use Rattle.rungs.specs.Rungs.{startSum, smallLimit, startValue, startsGaussian, ownRungTwo, nextOrder, startRungs}
 use Rattle.rungs.specs.Rungs.Open.{startValue-is, gaussian-is, growth-is, startRungs-is}
 use Rattle.rungs.specs.Branches.{orderIsLow, runsDown, branchOf}

@@ -11,7 +11,7 @@ use Rattle.floats.specs.Operations.{_⊗_, decimal, f0, f1}
 use Rattle.floats.specs.Functions.{absolute}
 use Rattle.elementary.proofs.Laws.{exp-zero, exp-minus-zero}
 use Rattle.start_sums.specs.Constants.{rootTwoOverPi}
-use Rattle.start_sums.proofs.Laws.{vvsa-zero-zero}
+use Rattle.small_sums.proofs.Laws.{vvsa-zero-zero}
 use Rattle.rungs.specs.declared.Function.the-variants.{D, «V»}
 use Rattle.rungs.specs.declared.Branch.the-variants.{Forward}
 use Rattle.rungs.specs.Rungs.{step, startValue, startRungs, ownRungTwo, nextRung, rung, derivative}

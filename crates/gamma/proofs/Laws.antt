@@ -9,8 +9,8 @@ use lib.Ieee.{Float, nan, add, sub, mul, div, neg, lt, eq, ofBits, ofInt, toSign
 use Rattle.floats.specs.Operations.{_⊗_, _⊘_, bits, decimal}
 use Rattle.floats.specs.Functions.{absolute, infinite, truncated, fraction}
 use Rattle.floats.specs.Loops.{countUp}
-use Rattle.elementary.specs.QuarterTurns.{pi}
-use Rattle.elementary.proofs.QuarterTurns.{quarter-turns}
+use Rattle.trigonometric.specs.QuarterTurns.{pi}
+use Rattle.trigonometric.proofs.QuarterTurns.{quarter-turns}
 use Rattle.gamma.specs.Constants.{poleValue}
 use Rattle.gamma.specs.Gamma.{productTurn, falling, polynomial, reciprocalSeries, gammaNear, gammaAbove, gamma2}
 use Rattle.gamma.specs.Gamma.Open.{gamma2-below}

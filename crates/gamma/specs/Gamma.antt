@@ -11,8 +11,8 @@ use lib.Ieee.{Float, lt, eq, neg, toSigned}
 use Rattle.floats.specs.Operations.{_⊕_, _⊖_, _⊗_, _⊘_, whole, f0, f1}
 use Rattle.floats.specs.Functions.{absolute, infinite, truncated, fraction}
 use Rattle.floats.specs.Loops.{Turn, countUp}
-use Rattle.elementary.specs.Elementary.{sin}
-use Rattle.elementary.specs.QuarterTurns.{pi}
+use Rattle.trigonometric.specs.Trigonometric.{sin}
+use Rattle.trigonometric.specs.QuarterTurns.{pi}
 use Rattle.gamma.specs.Constants.{poleValue, gammaCoefficients}
 
 -- the last k of a loop that counts up to m: for m below 0 it takes no turn

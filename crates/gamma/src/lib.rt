@@ -3,9 +3,9 @@
 ghost use mathlib.Core.Path.{_≡_};
 ghost use lib.Ieee.{toSigned};
 ghost use Rattle.gamma.specs.Gamma.{lastOf, factorial, falling, reciprocalSeries, gammaNear, gammaAbove, gamma2};
-use elementary::sin;
 use floats::abs;
 use floats::is_infinite;
+use trigonometric::sin;
 
 // The source's PI.
 pub const PI: f64 = 3.141592653589793;

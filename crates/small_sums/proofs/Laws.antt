@@ -5,7 +5,7 @@ use Prim.Native.Nat.{ℕ}
 use lib.ListN.{getD}
 use lib.Ieee.{Float, nan, mul, neg, eq, ofBits}
 use Rattle.floats.specs.Operations.{f0, f1}
-use Rattle.elementary.proofs.Laws.{exp-minus-zero}
+use Rattle.exponential.proofs.Laws.{exp-minus-zero}
 use Rattle.small_sums.specs.SmallSums.{dvsa, vvsa}
 use Rattle.small_sums.specs.SmallSums.Open.{dvsa-order-zero}
 use Rattle.small_sums.specs.SmallSums.Examples.{computed, values, examples-hold}

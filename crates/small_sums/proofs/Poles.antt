@@ -14,9 +14,9 @@ use Rattle.floats.proofs.Tests.{one, lt-or-ge}
 use Rattle.floats.proofs.Values.{zero-value, ofInt-pos, ofInt-value}
 use Rattle.floats.proofs.Cuts.{whole-to-i32}
 use Rattle.floats.proofs.Comparison.{eq-at, le-at}
-use Rattle.elementary.specs.Constants.{root2, f2}
-use Rattle.elementary.specs.QuarterTurns.{orderSine}
-use Rattle.elementary.proofs.QuarterTurns.{quarter-turns}
+use Rattle.logarithm.specs.Constants.{root2, f2}
+use Rattle.trigonometric.specs.QuarterTurns.{orderSine}
+use Rattle.trigonometric.proofs.QuarterTurns.{quarter-turns}
 use Rattle.gamma.specs.Gamma.{gamma2}
 use Rattle.small_sums.specs.SmallSums.{isPole, dvsa, dvsaAtZero, vvsaTurn}
 use Rattle.small_sums.specs.SmallSums.Open.{dvsa-at-zero}

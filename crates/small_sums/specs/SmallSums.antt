@@ -10,9 +10,10 @@ use lib.Ieee.{Float, lt, le, eq, neg, toSigned}
 use Rattle.floats.specs.Operations.{_⊕_, _⊖_, _⊗_, _⊘_, float, whole, f0, f½, f1}
 use Rattle.floats.specs.Functions.{absolute}
 use Rattle.floats.specs.Loops.{Turn, countUp}
-use Rattle.elementary.specs.Constants.{root2}
-use Rattle.elementary.specs.Elementary.{exp, exp2, sin}
-use Rattle.elementary.specs.QuarterTurns.{pi, orderSine}
+use Rattle.logarithm.specs.Constants.{root2}
+use Rattle.exponential.specs.Exponential.{exp, exp2}
+use Rattle.trigonometric.specs.Trigonometric.{sin}
+use Rattle.trigonometric.specs.QuarterTurns.{pi, orderSine}
 use Rattle.gamma.specs.Gamma.{gamma2}
 use Rattle.small_sums.specs.Constants.{quarter, tau, rootPi, seriesEpsilon}
 

@@ -2,12 +2,12 @@
 
 ghost use mathlib.Core.Path.{_≡_};
 ghost use Rattle.small_sums.specs.SmallSums.{isPole, dvsaAtZero, dvsaSum, dvsa, vvsaAtZero, vvsaSum, vvsa};
-use elementary::exp;
-use elementary::exp2;
-use elementary::sin;
+use exponential::exp;
+use exponential::exp2;
 use floats::abs;
 use gamma::PI;
 use gamma::gamma2;
+use trigonometric::sin;
 
 // The source's constants, under its names.
 const TAU: f64 = 6.283185307179586;

@@ -9,9 +9,11 @@ use lib.Ieee.{Float, lt, neg}
 use Rattle.floats.specs.Operations.{_⊕_, _⊖_, _⊗_, _⊘_, whole, f0, f½, f1}
 use Rattle.floats.specs.Functions.{absolute}
 use Rattle.floats.specs.Loops.{Turn, countUp}
-use Rattle.elementary.specs.Constants.{f2}
-use Rattle.elementary.specs.Elementary.{exp, sin, cos, power}
-use Rattle.elementary.specs.QuarterTurns.{pi}
+use Rattle.logarithm.specs.Constants.{f2}
+use Rattle.exponential.specs.Exponential.{exp}
+use Rattle.logarithm.specs.Logarithm.{power}
+use Rattle.trigonometric.specs.Trigonometric.{sin, cos}
+use Rattle.trigonometric.specs.QuarterTurns.{pi}
 use Rattle.gamma.specs.Gamma.{gamma2}
 use Rattle.small_sums.specs.Constants.{quarter}
 use Rattle.small_sums.specs.SmallSums.{ep}

@@ -1,5 +1,5 @@
 -- Values of gamma2, proved by computing them: one list, and one theorem over it. The sine is shut here, so a value that needs it stands in proofs/Laws.antt, by
--- elementary's own laws.
+-- trigonometric's own laws.
 use mathlib.Core.Path.{_≡_, refl}
 use Prim.Native.Nat.{_^_}
 use mathlib.Core.Bool.{true, false}

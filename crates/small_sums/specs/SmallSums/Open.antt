@@ -3,7 +3,7 @@ use mathlib.Core.Path.{_≡_}
 use mathlib.Core.Bool.{true, false}
 use lib.Ieee.{Float, eq, neg}
 use Rattle.floats.specs.Operations.{_⊕_, _⊗_, f0, f½, f1}
-use Rattle.elementary.specs.QuarterTurns.{orderSine}
+use Rattle.trigonometric.specs.QuarterTurns.{orderSine}
 use Rattle.gamma.specs.Gamma.{gamma2}
 use Rattle.small_sums.specs.SmallSums.{ep, dvsaAtZero, dvsaSum, dvsaFactor, dvsa, vvsaAtZero, vvsaSum, vvsaFactor, vvsa}
 

@@ -13,8 +13,8 @@ use Rattle.answers.specs.Elementary.{elementaryAnswer}
 use Rattle.answers.specs.StartSums.{startSumsAnswer}
 use Rattle.answers.specs.Tables.{tablesAnswer}
 
--- number n at x and y: those up to 10 are the functions of `floats`, those up to 18 of `elementary`, those up to 23 of `start_sums`, and the rest the
--- table calls
+-- number n at x and y: those up to 10 are the functions of `floats`, those up to 18 the elementary functions, those up to 23 gamma2 and the start
+-- sums, and the rest the table calls
 unfoldable pub answer : ℕ → Float → Float → Float
 answer n x y = cond (leb n 10) (floatsAnswer n x y) (cond (leb n 18) (elementaryAnswer n x y) (cond (leb n 23) (startSumsAnswer n x y) (tablesAnswer n x y)))
 

@@ -1,9 +1,11 @@
--- The functions of `elementary`, and the square root, by their numbers in data/elementary.bin (README.md).
+-- The elementary functions by their numbers in data/elementary.bin (README.md).
 use Prim.Native.Nat.{ℕ}
 use mathlib.Core.Bool.{cond}
 use lib.Dec.{eqb}
 use lib.Ieee.{Float, nan}
-use Rattle.elementary.specs.Elementary.{exp, exp2, expM1, ln, power, sin, cos}
+use Rattle.exponential.specs.Exponential.{exp, exp2, expM1}
+use Rattle.logarithm.specs.Logarithm.{ln, power}
+use Rattle.trigonometric.specs.Trigonometric.{sin, cos}
 use Rattle.roots.specs.SquareRoot.{squareRoot}
 
 -- function n at x and y, of which only the power takes y; NaN for a number that no function has

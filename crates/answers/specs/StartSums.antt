@@ -1,9 +1,11 @@
--- The functions of `start_sums` by their numbers in data/start_sums.bin (README.md).
+-- The functions of `gamma` and `start_sums` by their numbers in data/start_sums.bin (README.md).
 use Prim.Native.Nat.{ℕ}
 use mathlib.Core.Bool.{cond}
 use lib.Dec.{eqb}
 use lib.Ieee.{Float, nan}
-use Rattle.start_sums.specs.StartSums.{gamma2, dvsa, dvla, vvsa, vvla}
+use Rattle.gamma.specs.Gamma.{gamma2}
+use Rattle.small_sums.specs.SmallSums.{dvsa, vvsa}
+use Rattle.start_sums.specs.StartSums.{dvla, vvla}
 
 -- function n at x and y, the order of all but gamma2; NaN for a number that no function has
 unfoldable pub startSumsAnswer : ℕ → Float → Float → Float

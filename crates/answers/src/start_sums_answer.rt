@@ -1,4 +1,4 @@
-// The functions of `start_sums` by their numbers.
+// The functions of `gamma` and `start_sums` by their numbers.
 
 ghost use mathlib.Core.Path.{_≡_};
 ghost use Rattle.answers.specs.StartSums.{startSumsAnswer};
@@ -8,7 +8,7 @@ pub fn answer_of(n: u64, x: f64, y: f64) -> f64
     ensures { λ r. ⌜ r ≡ startSumsAnswer n x y ⌝ }
 {
     match n {
-        19 => start_sums::gamma2(x),
+        19 => gamma::gamma2(x),
         20 => start_sums::dvsa(x, y),
         21 => start_sums::dvla(x, y),
         22 => start_sums::vvsa(x, y),

@@ -5,9 +5,13 @@ mod table_calls;
 ghost use mathlib.Core.Path.{_≡_};
 ghost use lib.Ieee.{isNan, toSigned};
 ghost use Rattle.floats.specs.Functions.{alike, absolute, infinite, truncated, fraction, lesser, greater, signOf};
-ghost use Rattle.elementary.specs.Elementary.{exp, exp2, expM1, ln, power, sin, cos};
+ghost use Rattle.exponential.specs.Exponential.{exp, exp2, expM1};
+ghost use Rattle.logarithm.specs.Logarithm.{ln, power};
+ghost use Rattle.trigonometric.specs.Trigonometric.{sin, cos};
 ghost use Rattle.roots.specs.SquareRoot.{squareRoot};
-ghost use Rattle.start_sums.specs.StartSums.{gamma2, dvsa, dvla, vvsa, vvla};
+ghost use Rattle.gamma.specs.Gamma.{gamma2};
+ghost use Rattle.small_sums.specs.SmallSums.{dvsa, vvsa};
+ghost use Rattle.start_sums.specs.StartSums.{dvla, vvla};
 
 #[no_mangle]
 pub extern "C" fn compared_abs(x: f64) -> f64
@@ -83,49 +87,49 @@ pub extern "C" fn compared_alike(a: f64, b: f64) -> bool
 pub extern "C" fn compared_exp(y: f64) -> f64
     ensures { λ r. ⌜ r ≡ exp y ⌝ }
 {
-    elementary::exp(y)
+    exponential::exp(y)
 }
 
 #[no_mangle]
 pub extern "C" fn compared_exp2(y: f64) -> f64
     ensures { λ r. ⌜ r ≡ exp2 y ⌝ }
 {
-    elementary::exp2(y)
+    exponential::exp2(y)
 }
 
 #[no_mangle]
 pub extern "C" fn compared_exp_m1(y: f64) -> f64
     ensures { λ r. ⌜ r ≡ expM1 y ⌝ }
 {
-    elementary::exp_m1(y)
+    exponential::exp_m1(y)
 }
 
 #[no_mangle]
 pub extern "C" fn compared_ln(b: f64) -> f64
     ensures { λ r. ⌜ r ≡ ln b ⌝ }
 {
-    elementary::ln(b)
+    logarithm::ln(b)
 }
 
 #[no_mangle]
 pub extern "C" fn compared_pow(b: f64, p: f64) -> f64
     ensures { λ r. ⌜ r ≡ power b p ⌝ }
 {
-    elementary::pow(b, p)
+    logarithm::pow(b, p)
 }
 
 #[no_mangle]
 pub extern "C" fn compared_sin(y: f64) -> f64
     ensures { λ r. ⌜ r ≡ sin y ⌝ }
 {
-    elementary::sin(y)
+    trigonometric::sin(y)
 }
 
 #[no_mangle]
 pub extern "C" fn compared_cos(y: f64) -> f64
     ensures { λ r. ⌜ r ≡ cos y ⌝ }
 {
-    elementary::cos(y)
+    trigonometric::cos(y)
 }
 
 #[no_mangle]
@@ -139,7 +143,7 @@ pub extern "C" fn compared_square_root(x: f64) -> f64
 pub extern "C" fn compared_gamma2(x: f64) -> f64
     ensures { λ r. ⌜ r ≡ gamma2 x ⌝ }
 {
-    start_sums::gamma2(x)
+    gamma::gamma2(x)
 }
 
 #[no_mangle]

@@ -4,13 +4,14 @@ use mathlib.Core.Bool.{Bool, true, false}
 use lib.Ieee.{Float, neg, lt, le}
 use Rattle.floats.specs.Operations.{_⊗_, f0, f½}
 use Rattle.floats.specs.Functions.{absolute}
-use Rattle.elementary.specs.Constants.{f2}
+use Rattle.logarithm.specs.Constants.{f2}
 use Rattle.rungs.specs.declared.Function.{Function}
 use Rattle.rungs.specs.declared.Function.the-variants.{D, «V»}
 use Rattle.rungs.specs.declared.Branch.the-variants.{Forward, Downward, Scaled}
 use Rattle.rungs.specs.Constants.{f7·5, f10}
-use Rattle.elementary.specs.Elementary.{exp}
-use Rattle.start_sums.specs.Constants.{quarter, rootTwoOverPi}
+use Rattle.exponential.specs.Exponential.{exp}
+use Rattle.small_sums.specs.Constants.{quarter}
+use Rattle.start_sums.specs.Constants.{rootTwoOverPi}
 use Rattle.rungs.specs.Rungs.{startSum, smallLimit, startValue, startsGaussian, ownRungTwo, nextOrder, startRungs}
 use Rattle.rungs.specs.Rungs.Open.{startValue-is, gaussian-is, growth-is, startRungs-is}
 use Rattle.rungs.specs.Branches.{orderIsLow, runsDown, branchOf, runsForward}

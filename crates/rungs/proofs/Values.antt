@@ -1,4 +1,4 @@
--- The rungs behind 01's examples, at x = 0 and f = 0, as laws for the crates above: from the start rungs, which elementary and start_sums give, by
+-- The rungs behind 01's examples, at x = 0 and f = 0, as laws for the crates above: from the start rungs, which exponential and start_sums give, by
 -- computed steps. Assumes nothing.
 use mathlib.Core.Path.{_≡_, sym, ap, _∙_}
 use Prim.Native.Nat.{ℕ, suc, _+_}
@@ -9,9 +9,9 @@ use lib.ListN.{getD}
 use lib.Ieee.{Float, nan, add, mul, neg, le, eq, ofBits}
 use Rattle.floats.specs.Operations.{_⊗_, decimal, f0, f1}
 use Rattle.floats.specs.Functions.{absolute}
-use Rattle.elementary.proofs.Laws.{exp-zero, exp-minus-zero}
+use Rattle.exponential.proofs.Laws.{exp-zero, exp-minus-zero}
 use Rattle.start_sums.specs.Constants.{rootTwoOverPi}
-use Rattle.start_sums.proofs.Laws.{vvsa-zero-zero}
+use Rattle.small_sums.proofs.Laws.{vvsa-zero-zero}
 use Rattle.rungs.specs.declared.Function.the-variants.{D, «V»}
 use Rattle.rungs.specs.declared.Branch.the-variants.{Forward}
 use Rattle.rungs.specs.Rungs.{step, startValue, startRungs, ownRungTwo, nextRung, rung, derivative}

@@ -7,10 +7,12 @@ use lib.Dec.{eqb}
 use lib.Ieee.{Float, neg, le, eq}
 use Rattle.floats.specs.Operations.{_⊕_, _⊖_, _⊗_, _⊘_, whole, f0, f½, f1}
 use Rattle.floats.specs.Functions.{absolute}
-use Rattle.elementary.specs.Constants.{f2}
-use Rattle.elementary.specs.Elementary.{exp}
-use Rattle.start_sums.specs.Constants.{quarter, rootTwoOverPi}
-use Rattle.start_sums.specs.StartSums.{dvsa, dvla, vvsa, vvla}
+use Rattle.logarithm.specs.Constants.{f2}
+use Rattle.exponential.specs.Exponential.{exp}
+use Rattle.small_sums.specs.Constants.{quarter}
+use Rattle.start_sums.specs.Constants.{rootTwoOverPi}
+use Rattle.small_sums.specs.SmallSums.{dvsa, vvsa}
+use Rattle.start_sums.specs.StartSums.{dvla, vvla}
 use Rattle.rungs.specs.declared.Function.{Function}
 use Rattle.rungs.specs.declared.Function.the-variants.{D, «V»}
 use Rattle.rungs.specs.Constants.{f5·8, f7·5, seedD, seedV}

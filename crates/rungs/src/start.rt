@@ -4,7 +4,7 @@ ghost use mathlib.Core.Path.{_≡_};
 ghost use Rattle.rungs.specs.Rungs.{startSum, smallLimit, startValue, startsGaussian, nextOrder, startRungs, ownRungTwo, topRungs, seed};
 use crate::Adjacent;
 use crate::Function;
-use elementary::exp;
+use exponential::exp;
 use floats::abs;
 use order::Rung;
 use start_sums::constants::SQRT_FRAC_2_PI;

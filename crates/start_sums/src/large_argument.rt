@@ -2,14 +2,14 @@
 
 ghost use mathlib.Core.Path.{_≡_};
 ghost use Rattle.start_sums.specs.StartSums.{dvlaSum, dvlaExpansion, dvlaJoined, dvla, vvlaSum, vvlaExpansion, vvlaJoined, vvla};
-use crate::constants::PI;
 use crate::constants::SQRT_FRAC_2_PI;
-use crate::gamma::gamma2;
-use elementary::cos;
-use elementary::exp;
-use elementary::pow;
-use elementary::sin;
+use exponential::exp;
 use floats::abs;
+use gamma::PI;
+use gamma::gamma2;
+use logarithm::pow;
+use trigonometric::cos;
+use trigonometric::sin;
 
 // The sum of D's expansion, of at most 16 terms after the first.
 fn dvla_sum(x: f64, va: f64) -> f64

@@ -5,7 +5,7 @@ use mathlib.Core.Bool.{Bool, true, false, _&&_, _||_, cond}
 use lib.Ieee.{Float, lt, le}
 use Rattle.floats.specs.Operations.{_⊗_, f0, f½}
 use Rattle.floats.specs.Functions.{absolute}
-use Rattle.elementary.specs.Constants.{f2}
+use Rattle.logarithm.specs.Constants.{f2}
 use Rattle.rungs.specs.declared.Function.{Function}
 use Rattle.rungs.specs.declared.Function.the-variants.{D, «V»}
 use Rattle.rungs.specs.declared.Branch.the-variants.{Forward, Downward, Scaled}

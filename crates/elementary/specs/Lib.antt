@@ -1,4 +1,0 @@
-pub mod Constants
-pub mod Elementary
-pub mod QuarterTurns
-pub mod LnSteps

@@ -1,0 +1,3 @@
+pub mod PowersOfTwo
+pub mod NearRange
+pub mod Laws

@@ -1,0 +1,3 @@
+pub mod Significand
+pub mod LnCases
+pub mod Laws

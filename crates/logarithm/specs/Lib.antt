@@ -1,0 +1,3 @@
+pub mod Constants
+pub mod Logarithm
+pub mod LnSteps

@@ -1,0 +1,5 @@
+pub mod ConstantValues
+pub mod NearRange
+pub mod Quadrants
+pub mod QuarterTurns
+pub mod Laws

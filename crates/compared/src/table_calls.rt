@@ -15,7 +15,7 @@ pub struct ComparedAnswer {
 }
 
 // An answer as the struct.
-fn flat(a: tables::Answer) -> ComparedAnswer
+pub(crate) fn flat(a: tables::Answer) -> ComparedAnswer
     ensures number { λ r. ⌜ r .refusal ≡ refusalOf a ⌝ }
     ensures pair { λ r. ⌜ (r .value, r .derivative) ≡ pairOrNan (pairOf a) ⌝ }
 {

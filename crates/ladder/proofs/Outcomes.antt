@@ -1,5 +1,5 @@
 -- What comes of each judgement: what it says of the state and the tables, and what the action gives and leaves. Assumes nothing.
-use mathlib.Core.Path.{_≡_, sym, ap, _∙_, subst}
+use mathlib.Core.Path.{_≡_, refl, sym, ap, _∙_, subst}
 use mathlib.Core.List.{List}
 use mathlib.Core.Option.{some}
 use Prim.Native.Nat.{ℕ, _+_, _-_, _≤_, _<_}
@@ -9,6 +9,7 @@ use lib.ListN.{length}
 use lib.Ieee.{Float, binary64, fits}
 use Rattle.order.specs.Order.{topRung}
 use Rattle.columns.specs.Filled.{filled}
+use Rattle.columns.proofs.Filled.{length-filled}
 use Rattle.tables.specs.Tables.{valueOf, derivativeOf}
 use Rattle.machine.specs.Machine.{Request, asked, refusal, Verdict, refuses, repeats, climbs, startsOver, verdict}
 use Rattle.machine.specs.Held.{machineOf}
@@ -70,3 +71,18 @@ climbed-n s n = ap (λ (z : Ladder). z .n) (climbedTo-is s n)
 
 pub state-n : (q : Request) → stateFor q .n ≡ topRung (q .v)
 state-n q = ap (λ (z : Ladder). z .n) (stateFor-is q)
+
+-- no table changes its length
+module _ (s : Ladder) (q : Request) (l d : List Float) where
+  kept : (w : Verdict) → (length (outcomeBy w s q l d .values) ≡ length l) × (length (outcomeBy w s q l d .derivatives) ≡ length d)
+  kept (refuses number) = rw (outcome-refuses number s q l d) (refl, refl)
+  kept (repeats n) = rw (outcome-repeats n s q l d) (refl, refl)
+  kept (climbs m n) =
+      rw (outcome-climbs m n s q l d)
+      (length-filled (carriedValue s) (m + 1) (m + 1) (n - m) l, length-filled (carriedDerivative s) m m (n - m) d)
+  kept (startsOver n) =
+      rw (outcome-startsOver n s q l d)
+      (length-filled (valueOf (q .function) (q .v) (q .x)) 0 0 (n + 1) l, length-filled (derivativeOf (q .function) (q .v) (q .x)) 0 0 n d)
+
+  pub lengths-kept : (length (requested s q l d .values) ≡ length l) × (length (requested s q l d .derivatives) ≡ length d)
+  lengths-kept = rw (requested-is s q l d) (kept (verdict (machineOf (heldIn s)) (asked q (length l) (length d))))

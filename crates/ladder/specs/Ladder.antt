@@ -2,9 +2,12 @@
 use mathlib.Core.List.{List}
 use mathlib.Core.Option.{Option, some, none}
 use Prim.Native.Nat.{ℕ, zero, suc, _+_, _-_}
+use mathlib.Core.Bool.{false}
 use lib.ListN.{length}
 use lib.Ieee.{Float}
+use Rattle.floats.specs.Operations.{f0}
 use Rattle.order.specs.Order.{below, fractionOf, topRung}
+use Rattle.rungs.specs.declared.Function.the-variants.{D}
 use Rattle.rungs.specs.Rungs.{step, derivative}
 use Rattle.columns.specs.Filled.{filled}
 use Rattle.tables.specs.Tables.{refusalOf, pairOf, valueOf, derivativeOf}
@@ -19,7 +22,11 @@ pub mod Open
 
 -- ---- the state
 
--- its fields, its two values left out
+-- a state that holds nothing: every field is 0
+pub emptyState : Ladder
+emptyState = record { function = D; below = false; x = f0; f = f0; n = 0; low = f0; high = f0 }
+
+-- the fields of a state, its two values left out
 unfoldable pub heldIn : Ladder → Held
 heldIn s = record { function = s .function; below = s .below; x = s .x; f = s .f; n = s .n }
 

@@ -7,10 +7,9 @@ mod reader;
 
 ghost use mathlib.Core.Path.{_≡_};
 ghost use mathlib.Core.Bool.{true};
-ghost use Rattle.rungs.specs.declared.Function.the-variants.{D, «V»};
 ghost use Rattle.machine.specs.Machine.{asks};
 ghost use Rattle.machine.specs.Held.{countsEmpty};
-ghost use Rattle.ladder.specs.Ladder.{heldIn, givenBy, outcome, requested};
+ghost use Rattle.ladder.specs.Ladder.{emptyState, heldIn, givenBy, outcome, requested};
 use actions::act;
 use actions::held_in;
 use order::Rung;
@@ -51,7 +50,8 @@ pub enum Column {
 impl Ladder {
     // A ladder that holds nothing.
     pub fn empty() -> Ladder
-        ensures { λ r. ⌜ countsEmpty (heldIn r) ≡ true ⌝ }
+        ensures state { λ r. ⌜ r ≡ emptyState ⌝ }
+        ensures empty { λ r. ⌜ countsEmpty (heldIn r) ≡ true ⌝ }
     {
         Ladder {
             function: Function::D,
@@ -64,7 +64,7 @@ impl Ladder {
         }
     }
 
-    // A request of either function: judged, and then acted on.
+    // D or V at order v and argument x: the request is judged, and then acted on.
     pub fn request(
         self,
         function: Function,
@@ -78,19 +78,5 @@ impl Ladder {
         let held = held_in(self);
         let judgement = machine::judge(held, function, v, x, values.len(), derivatives.len());
         act(values, derivatives, self, judgement, function, v, x)
-    }
-
-    // D at order v and argument x.
-    pub fn d(self, v: f64, x: f64, values: &mut [f64], derivatives: &mut [f64]) -> Reply
-        ensures { λ r. ⌜ outcome (givenBy r) (now (values .exit)) (now (derivatives .exit)) ≡ requested self (asks D v x) (now (values .entry)) (now (derivatives .entry)) ⌝ }
-    {
-        self.request(Function::D, v, x, values, derivatives)
-    }
-
-    // V at order v and argument x.
-    pub fn v(self, v: f64, x: f64, values: &mut [f64], derivatives: &mut [f64]) -> Reply
-        ensures { λ r. ⌜ outcome (givenBy r) (now (values .exit)) (now (derivatives .exit)) ≡ requested self (asks «V» v x) (now (values .entry)) (now (derivatives .entry)) ⌝ }
-    {
-        self.request(Function::V, v, x, values, derivatives)
     }
 }

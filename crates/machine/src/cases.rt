@@ -14,7 +14,7 @@ use order::Rung;
 use rungs::Function;
 
 // Whether a state with these fields counts as empty.
-pub fn counts_empty(held: Held) -> bool
+fn counts_empty(held: Held) -> bool
     ensures { λ r. ⌜ r ≡ countsEmpty held ⌝ }
 {
     if held.n == 0 {

@@ -7,7 +7,6 @@ ghost use mathlib.Core.Path.{_≡_};
 ghost use Rattle.machine.specs.Machine.{asks, asked, tooShort, verdict};
 ghost use Rattle.machine.specs.Held.{machineOf, verdictOf};
 use cases::case_of;
-pub use cases::counts_empty;
 use order::Rung;
 use rungs::Function;
 

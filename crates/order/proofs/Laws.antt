@@ -16,7 +16,7 @@ use Rattle.floats.proofs.Values.{cross}
 use Rattle.floats.specs.Functions.{absolute}
 use Rattle.floats.proofs.Comparison.{float-le-trans, float-lt-total}
 use Rattle.floats.proofs.Rounding.{round-neg}
-use Rattle.order.specs.Order.{f1000, tooLarge, num}
+use Rattle.order.specs.Order.{f1000, tooLarge, below, fractionOf, topRung, num}
 use Rattle.order.specs.Order.Open.{num-is}
 use Rattle.order.specs.Order.Examples.{Parts, parts, computed, values, examples-hold}
 use Rattle.order.specs.Facts.{Split}
@@ -130,3 +130,26 @@ order-below-one = at 8
 -- a tiny order below 0 has f = 0 and n = 1
 pub order-tiny-below : parts (neg (bits 0x3c30_0000_0000_0000)) ≡ (false, true, neg f1, f0, 1, 3)
 order-tiny-below = at 11
+
+-- ---- the parts of an order that was computed
+
+module _ (v : Float) (p : Parts) (e : parts v ≡ p) where
+  pub large : tooLarge v ≡ p .0
+  unfolding parts
+  large = ap (λ (q : Parts). q .0) e
+
+  pub side : below v ≡ p .1
+  unfolding parts
+  side = ap (λ (q : Parts). q .1) e
+
+  pub part : fractionOf v ≡ p .3
+  unfolding parts
+  part = ap (λ (q : Parts). q .3) e
+
+  pub top : topRung v ≡ p .4
+  unfolding parts
+  top = ap (λ (q : Parts). q .4) e
+
+  pub columns : num v ≡ p .5
+  unfolding parts
+  columns = ap (λ (q : Parts). q .5) e

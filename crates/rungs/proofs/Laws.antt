@@ -194,6 +194,9 @@ module _ (fn : Function) (s : Bool) (x u : Float) where
       go Downward t = absurd (true≢false (sym t ∙ isForward-Downward))
       go Scaled t = absurd (true≢false (sym t ∙ isForward-Scaled))
 
+  pub forward-runs : branchOf fn s x u ≡ Forward → runsForward fn s x u ≡ true
+  forward-runs e = rw (runsForward-is fn s x u, e, isForward-Forward)
+
 -- below 0 no branch asks for u
 pub below-same : (fn : Function) (x u u' : Float) → branchOf fn true x u ≡ branchOf fn true x u'
 below-same D x u u' = branchOf-D-below x u ∙ sym (branchOf-D-below x u')

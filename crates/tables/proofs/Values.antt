@@ -11,7 +11,7 @@ use lib.Ieee.{Float, neg, isNan, ofBits}
 use Rattle.floats.specs.Operations.{bits, decimal, f0, f1}
 use Rattle.order.specs.Order.{f1000, tooLarge, below, shifted, fractionOf, topRung, num}
 use Rattle.order.specs.Order.Examples.{Parts, parts}
-use Rattle.order.proofs.Laws.{order-zero, order-one, order-two, order-minus-one, order-1000, order-999½, order-below-one, order-tiny-below}
+use Rattle.order.proofs.Laws.{order-zero, order-one, order-two, order-minus-one, order-1000, order-999½, order-below-one, order-tiny-below, order-four, large, side, part, top, columns}
 use Rattle.start_sums.specs.Constants.{rootTwoOverPi}
 use Rattle.rungs.specs.declared.Function.{Function}
 use Rattle.rungs.specs.declared.Branch.the-variants.{Forward}
@@ -19,34 +19,11 @@ use Rattle.rungs.specs.Branches.{branchOf}
 use Rattle.rungs.specs.declared.Function.the-variants.{D, «V»}
 use Rattle.rungs.specs.Rungs.{rung, derivative}
 use Rattle.rungs.proofs.Laws.{value-forward, derivative-at, no-own-two}
-use Rattle.rungs.proofs.Values.{D-forward, D-rung-0, D-rung-1, D-rung-2, D-rung-3, D-derivative-0, D-derivative-1, D-derivative-2, V-forward, V-rung-0, V-rung-1, V-rung-2, V-derivative-0, V-derivative-1, V-own-two}
+use Rattle.rungs.proofs.Values.{D-forward, D-rung-0, D-rung-1, D-rung-2, D-rung-3, D-rung-4, D-rung-5, D-derivative-0, D-derivative-1, D-derivative-2, D-derivative-4, V-forward, V-rung-0, V-rung-1, V-rung-2, V-derivative-0, V-derivative-1, V-own-two}
 use Rattle.columns.specs.Filled.{filled}
 use Rattle.columns.proofs.Tables.{three-values, plain-values}
 use Rattle.tables.specs.Tables.{refusal, valueOf, derivativeOf, valuesWritten, tableAfter, answer}
 use Rattle.tables.specs.Tables.Open.{refusalBy-is, refusal-is, valueOf-is, derivativeOf-is, valuesWritten-is, tableAfter-is, answer-is}
-
--- ---- the parts of an order that was computed
-
-module _ (v : Float) (p : Parts) (e : parts v ≡ p) where
-  large : tooLarge v ≡ p .0
-  unfolding parts
-  large = ap (λ (q : Parts). q .0) e
-
-  side : below v ≡ p .1
-  unfolding parts
-  side = ap (λ (q : Parts). q .1) e
-
-  part : fractionOf v ≡ p .3
-  unfolding parts
-  part = ap (λ (q : Parts). q .3) e
-
-  top : topRung v ≡ p .4
-  unfolding parts
-  top = ap (λ (q : Parts). q .4) e
-
-  columns : num v ≡ p .5
-  unfolding parts
-  columns = ap (λ (q : Parts). q .5) e
 
 -- ---- a forward branch at x = 0 and f = 0: its columns are its rungs
 
@@ -135,6 +112,21 @@ P7-table a b c d e f g h i j =
       two-derivatives .1,
       two-derivatives .2,
     )
+
+-- ---- for P11: D, v = 4, x = 0: (3, 0)
+
+abbrev four : Float
+four = decimal 4 0
+
+pub four-values : (valueOf D four f0 4 ≡ decimal 3 0) × (derivativeOf D four f0 4 ≡ f0)
+four-values = (
+  rw (d-values four _ order-four refl refl) D-rung-4,
+  derivatives D false four _ order-four refl refl (D-forward f0) 4 (decimal 3 0) f0 D-rung-4 D-rung-5 ∙ D-derivative-4,
+)
+
+pub four-answer : answer D four f0 14 ≡ some (decimal 3 0, f0)
+unfolding isNan ofBits decimal
+four-answer = answered-as four f0 14 _ order-four refl refl D refl ∙ rw (four-values .0, four-values .1)
 
 -- ---- P8: V, v = −1, x = 0: (0.7978845608028654, 0)
 

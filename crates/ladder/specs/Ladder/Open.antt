@@ -2,16 +2,23 @@
 use mathlib.Core.Path.{_≡_, refl}
 use mathlib.Core.List.{List}
 use Prim.Native.Nat.{ℕ, suc, _+_, _-_}
+use mathlib.Core.Bool.{false}
 use lib.ListN.{length}
 use lib.Ieee.{Float}
+use Rattle.floats.specs.Operations.{f0}
 use Rattle.order.specs.Order.{below, fractionOf, topRung}
+use Rattle.rungs.specs.declared.Function.the-variants.{D}
 use Rattle.rungs.specs.Rungs.{step, derivative}
 use Rattle.columns.specs.Filled.{filled}
 use Rattle.tables.specs.Tables.{valueOf, derivativeOf}
 use Rattle.machine.specs.Machine.{Request, asked, refuses, repeats, climbs, startsOver, written, verdict}
 use Rattle.machine.specs.Held.{machineOf}
 use Rattle.ladder.specs.declared.Ladder.{Ladder}
-use Rattle.ladder.specs.Ladder.{heldIn, stateFor, carried, carriedValue, carriedDerivative, climbedTo, pairFrom, refused, accepted, outcome, outcomeBy, requested}
+use Rattle.ladder.specs.Ladder.{heldIn, emptyState, stateFor, carried, carriedValue, carriedDerivative, climbedTo, pairFrom, refused, accepted, outcome, outcomeBy, requested}
+
+pub emptyState-is : emptyState ≡ record { function = D; below = false; x = f0; f = f0; n = 0; low = f0; high = f0 }
+unfolding emptyState
+emptyState-is = refl
 
 pub stateFor-is : (q : Request) → stateFor q ≡ record { function = q .function; below = below (q .v); x = q .x; f = fractionOf (q .v); n = topRung (q .v); low = valueOf (q .function) (q .v) (q .x) (topRung (q .v) - 1); high = valueOf (q .function) (q .v) (q .x) (topRung (q .v)) }
 unfolding stateFor

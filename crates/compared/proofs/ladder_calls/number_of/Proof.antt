@@ -1,0 +1,14 @@
+-- `compared::ladder_calls::number_of` meets its contract: one arm for each function.
+use Rattle.compared.specs.Ladders.{numberOf}
+use Rattle.compared.proofs.ladder_calls.number_of.Statement.{statement}
+use Rattle.compared.proofs.ladder_calls.number_of.Tie as tie
+
+pub number-of-spec : {M : Type 1} → statement M
+unfolding numberOf
+number-of-spec =
+    tie.close
+    (tie.spec
+    (λ c. c .match .keys1)
+    (λ c. c .match .keys2)
+    (λ c. rw (c .enum-told .given .1))
+    (λ c. rw (c .enum-told2 .given .1)))

@@ -1,0 +1,44 @@
+// P11 through the code.
+
+ghost use mathlib.Core.Path.{_≡_};
+ghost use mathlib.Core.List.{[], _∷_};
+ghost use mathlib.Core.Option.{some};
+ghost use lib.Ieee.{Float};
+ghost use Rattle.floats.specs.Operations.{decimal, f0};
+ghost use Rattle.tables.specs.Tables.{pairOf};
+ghost use Rattle.ladder.specs.Ladder.{writtenOf};
+use crate::FourRequests;
+use ladder::Ladder;
+use rungs::Function;
+
+// D at x = 0 and v = 2, 4, 4, 2 on one ladder, with a value table of 6 slots and a derivative table of 5.
+pub fn p11() -> FourRequests
+    ensures written { λ r. ⌜ writtenOf (r .first) ∷ writtenOf (r .second) ∷ writtenOf (r .third) ∷ writtenOf (r .fourth) ∷ [] ≡ some 4 ∷ some 2 ∷ some 0 ∷ some 4 ∷ [] ⌝ }
+    ensures answered { λ r. ⌜ pairOf (r .answer) ≡ some (decimal 3 0, f0) ⌝ }
+    ensures stored { λ r. ⌜ _≡_ {A = Float × Float} (r .value, r .derivative) (decimal 3 0, f0) ⌝ }
+{
+    let mut values = [0.0; 6];
+    let mut derivatives = [0.0; 5];
+    let ladder = Ladder::empty();
+    let a = ladder.request(Function::D, 2.0, 0.0, &mut values, &mut derivatives);
+    let b = a.state
+        .request(Function::D, 4.0, 0.0, &mut values, &mut derivatives);
+    let c = b.state
+        .request(Function::D, 4.0, 0.0, &mut values, &mut derivatives);
+    let d = c.state
+        .request(Function::D, 2.0, 0.0, &mut values, &mut derivatives);
+    let first = a.written;
+    let second = b.written;
+    let third = c.written;
+    let fourth = d.written;
+    let answer = b.answer;
+    FourRequests {
+        first: first,
+        second: second,
+        third: third,
+        fourth: fourth,
+        answer: answer,
+        value: values[4],
+        derivative: derivatives[4],
+    }
+}

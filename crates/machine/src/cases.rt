@@ -98,14 +98,13 @@ pub(crate) fn case_of(
     if counts_empty(held) {
         return Judgement::StartOver(n);
     }
-    if !same_rungs(held, function, below, x, f) {
-        return Judgement::StartOver(n);
-    }
-    if held.n == n {
-        return Judgement::Repeat(n);
-    }
-    if may_climb(held, n) {
-        return Judgement::Climb(held.n, n);
+    if same_rungs(held, function, below, x, f) {
+        if held.n == n {
+            return Judgement::Repeat(n);
+        }
+        if may_climb(held, n) {
+            return Judgement::Climb(held.n, n);
+        }
     }
     Judgement::StartOver(n)
 }

@@ -13,10 +13,10 @@ use Rattle.machine.proofs.cases.case_of.Tie as tie
 held : (c : tie.Else1) → countsEmpty (c .before .before .args .held) ≡ false
 held c = sym (c .before .counts-empty .ensures) ∙ c .if1 .left
 
-same : (c : tie.Else2)
+same : (c : tie.Then2)
     → let g = c .before .before .before .before .args in
     sameRungs (g .held .function) (g .held .below) (bitsOf (g .held .x)) (bitsOf (g .held .f)) (g .function) (g .below) (bitsOf (g .x)) (bitsOf (g .f)) ≡ true
-same c = sym (c .before .same-rungs .ensures) ∙ not-false (c .before .same-rungs .result) (c .if2 .left)
+same c = sym (c .before .same-rungs .ensures) ∙ c .if2 .taken
 
 same-rungs-requires : tie.Need-same-rungs-requires
 same-rungs-requires c κs =
@@ -32,8 +32,6 @@ case-of-spec =
     (λ c κs. tt)
     (λ c. case-empty _ _ _ _ _ _ (sym (c .before .counts-empty .ensures) ∙ c .if1 .taken))
     same-rungs-requires
-    (λ c.
-    case-other _ _ _ _ _ _ (held (c .before .before)) (sym (c .before .same-rungs .ensures) ∙ not-true (c .before .same-rungs .result) (c .if2 .taken)))
     (λ c. let s = c .before .before in case-repeat _ _ _ _ _ _ (held (s .before .before)) (same s) (c .if3 .taken))
     (λ c κs. tt)
     (λ c.
@@ -43,4 +41,5 @@ case-of-spec =
     (λ c.
     let n = c .before .before in
     let s = n .before .before in
-    case-over _ _ _ _ _ _ (held (s .before .before)) (same s) (n .if3 .left) (sym (c .before .may-climb .ensures) ∙ c .if4 .left)))
+    case-over _ _ _ _ _ _ (held (s .before .before)) (same s) (n .if3 .left) (sym (c .before .may-climb .ensures) ∙ c .if4 .left))
+    (λ c. case-other _ _ _ _ _ _ (held (c .before .before)) (sym (c .before .same-rungs .ensures) ∙ c .if2 .left)))

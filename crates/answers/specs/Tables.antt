@@ -7,8 +7,8 @@ use lib.Dec.{eqb, leb, ltb}
 use lib.ListN.{length, take, replicate}
 use lib.Ieee.{Float, nan, inf, neg}
 use Rattle.floats.specs.Operations.{whole, bits, f0}
-use Rattle.rungs.specs.declared.Function.{Function}
-use Rattle.rungs.specs.declared.Function.the-variants.{D, «V»}
+use Rattle.recurrence.specs.declared.Function.{Function}
+use Rattle.recurrence.specs.declared.Function.the-variants.{D, «V»}
 use Rattle.columns.specs.Filled.{filled}
 use Rattle.columns.specs.Columns.{slot}
 use Rattle.tables.specs.Tables.{refusal, tableAfter, answer}

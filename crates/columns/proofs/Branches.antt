@@ -8,8 +8,9 @@ use native.Mathlib.Omega.{arith}
 use lib.ListN.{length, set}
 use lib.Ieee.{Float, nan}
 use Rattle.floats.specs.Operations.{_⊘_, f0}
-use Rattle.rungs.specs.declared.Function.{Function}
-use Rattle.rungs.specs.Rungs.{startValue, startRungs, nextRung, rung, descent, topRungs, downwardRung, seed, rawRung, scaledRung}
+use Rattle.recurrence.specs.declared.Function.{Function}
+use Rattle.recurrence.specs.Recurrence.{nextRung}
+use Rattle.rungs.specs.Rungs.{startValue, startRungs, rung, descent, topRungs, downwardRung, seed, rawRung, scaledRung}
 use Rattle.rungs.specs.Branches.{value, derivativeAt}
 use Rattle.rungs.proofs.Laws.{derivative-at, rungs-zero-one, rung-two, descent-top, descent-above, descent-on, downward-rung, raw-rung, scaled-rung}
 use Rattle.columns.specs.Filled.{filled}

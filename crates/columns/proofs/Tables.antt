@@ -9,8 +9,9 @@ use lib.Dec.{eqb}
 use lib.ListN.{length, set}
 use lib.Ieee.{Float}
 use Rattle.floats.specs.Operations.{_⊗_}
-use Rattle.rungs.specs.declared.Function.{Function}
-use Rattle.rungs.specs.Rungs.{ownRungTwo, rung}
+use Rattle.recurrence.specs.declared.Function.{Function}
+use Rattle.recurrence.specs.Recurrence.{ownRungTwo}
+use Rattle.rungs.specs.Rungs.{rung}
 use Rattle.rungs.specs.Branches.{value, derivativeAt}
 use Rattle.rungs.proofs.Laws.{own-rung-two, own-forward, value-forward, derivative-at}
 use Rattle.columns.specs.Filled.{filled}

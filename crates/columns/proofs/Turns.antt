@@ -9,8 +9,9 @@ use native.Mathlib.Omega.{arith}
 use lib.ListN.{length, getD, set}
 use lib.Ieee.{Float, nan}
 use Rattle.floats.specs.Operations.{_⊗_}
-use Rattle.rungs.specs.declared.Function.{Function}
-use Rattle.rungs.specs.Rungs.{step, rung, stepDown, descent, derivative}
+use Rattle.recurrence.specs.declared.Function.{Function}
+use Rattle.recurrence.specs.Recurrence.{step, stepDown, derivative}
+use Rattle.rungs.specs.Rungs.{rung, descent}
 use Rattle.rungs.proofs.Laws.{rung-step, descent-step}
 use Rattle.columns.specs.Filled.{filled}
 use Rattle.columns.specs.Columns.{slot, scaledBy, derivativeOver}

@@ -6,8 +6,8 @@ use lib.Dec.{eqb, ltb, leb}
 use lib.ListN.{length, getD}
 use lib.Ieee.{Float, nan}
 use Rattle.floats.specs.Operations.{_⊗_}
-use Rattle.rungs.specs.declared.Function.{Function}
-use Rattle.rungs.specs.Rungs.{ownRungTwo, derivative}
+use Rattle.recurrence.specs.declared.Function.{Function}
+use Rattle.recurrence.specs.Recurrence.{ownRungTwo, derivative}
 use Rattle.rungs.specs.Branches.{value, derivativeAt}
 use Rattle.columns.specs.Filled.{filled}
 pub mod Open

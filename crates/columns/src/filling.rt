@@ -6,7 +6,7 @@ ghost use mathlib.Core.Bool.{cond, _&&_};
 ghost use lib.Dec.{eqb};
 ghost use lib.ListN.{length, set};
 ghost use Rattle.floats.specs.Operations.{_⊗_};
-ghost use Rattle.rungs.specs.Rungs.{ownRungTwo};
+ghost use Rattle.recurrence.specs.Recurrence.{ownRungTwo};
 ghost use Rattle.rungs.specs.Branches.{value};
 ghost use Rattle.columns.specs.Filled.{filled};
 ghost use Rattle.columns.specs.Columns.{slot, derivativeOver, roomFor, valueColumn, derivativeColumn, roomIn, bothColumns};

@@ -3,8 +3,8 @@ use mathlib.Core.Option.{Option, some, none}
 use Prim.Native.Nat.{ℕ}
 use mathlib.Core.Bool.{Bool, not, cond}
 use lib.Dec.{eqb}
-use Rattle.rungs.specs.declared.Function.{Function}
-use Rattle.rungs.specs.declared.Function.the-variants.{D, «V»}
+use Rattle.recurrence.specs.declared.Function.{Function}
+use Rattle.recurrence.specs.declared.Function.the-variants.{D, «V»}
 use Rattle.ladder.specs.declared.Ladder.{Ladder}
 use Rattle.ladder.specs.Ladder.{Given}
 use Rattle.compared.specs.declared.ladder_calls.ComparedLadder.{ComparedLadder}

@@ -1,7 +1,7 @@
 // The ladder's requests, with a state and a reply that C takes.
 
 ghost use mathlib.Core.Path.{_≡_};
-ghost use Rattle.rungs.specs.declared.Function.the-variants.{D, «V»};
+ghost use Rattle.recurrence.specs.declared.Function.the-variants.{D, «V»};
 ghost use Rattle.machine.specs.Machine.{asks};
 ghost use Rattle.ladder.specs.Ladder.{writtenOf, givenBy, requested};
 ghost use Rattle.compared.specs.Ladders.{functionOf, numberOf, ladderIn, ladderOut, countOf, replyOf};

@@ -2,7 +2,7 @@
 
 ghost use mathlib.Core.Path.{_≡_};
 ghost use lib.ListN.{length};
-ghost use Rattle.rungs.specs.declared.Function.the-variants.{D, «V»};
+ghost use Rattle.recurrence.specs.declared.Function.the-variants.{D, «V»};
 ghost use Rattle.tables.specs.Tables.{refusalOf, pairOf, refusal, tableAfter, answer};
 ghost use Rattle.compared.specs.Answers.{pairOrNan};
 

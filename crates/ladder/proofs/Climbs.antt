@@ -6,7 +6,7 @@ use native.Mathlib.Nat.{sub-self}
 use native.Mathlib.Omega.{arith}
 use lib.ListN.{set}
 use lib.Ieee.{Float}
-use Rattle.rungs.specs.Rungs.{step, derivative}
+use Rattle.recurrence.specs.Recurrence.{step, derivative}
 use Rattle.columns.specs.Filled.{filled}
 use Rattle.columns.proofs.Filled.{filled-more}
 use Rattle.ladder.specs.declared.Ladder.{Ladder}

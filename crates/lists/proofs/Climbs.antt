@@ -7,9 +7,10 @@ use native.Mathlib.Omega.{arith}
 use lib.Ieee.{Float}
 use Rattle.floats.specs.Operations.{_⊕_, whole}
 use Rattle.order.specs.Facts.{Split}
-use Rattle.rungs.specs.declared.Function.{Function}
+use Rattle.recurrence.specs.declared.Function.{Function}
+use Rattle.recurrence.specs.Recurrence.{step}
 use Rattle.rungs.specs.declared.Branch.the-variants.{Forward}
-use Rattle.rungs.specs.Rungs.{step, rung}
+use Rattle.rungs.specs.Rungs.{rung}
 use Rattle.rungs.specs.Branches.{branchOf, runsForward, value, derivativeAt}
 use Rattle.rungs.proofs.Laws.{rung-step, value-forward, derivative-at, forward-branch, forward-held, forward-higher}
 use Rattle.ladder.specs.declared.Ladder.{Ladder}

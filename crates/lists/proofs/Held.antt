@@ -12,7 +12,7 @@ use Rattle.order.specs.Order.{below, shifted, fractionOf, topRung, num}
 use Rattle.order.specs.Facts.{InRange, Split}
 use Rattle.order.proofs.Facts.{split-facts}
 use Rattle.order.proofs.Laws.{fraction-number, fraction-small}
-use Rattle.rungs.specs.Rungs.{derivative}
+use Rattle.recurrence.specs.Recurrence.{derivative}
 use Rattle.rungs.proofs.Laws.{derivative-at}
 use Rattle.tables.specs.Tables.{refusal, valueOf, derivativeOf, answer}
 use Rattle.tables.proofs.Calls.{not-refused-long, value-is, derivative-is, value-slot, derivative-slot, answer-accepted, table-keeps}

@@ -7,7 +7,7 @@ use lib.Ieee.{Float, binary64, fits}
 use Rattle.floats.specs.Operations.{_⊕_, whole}
 use Rattle.order.specs.Order.{below, shifted, fractionOf, topRung, num}
 use Rattle.order.specs.Facts.{Split}
-use Rattle.rungs.specs.declared.Function.{Function}
+use Rattle.recurrence.specs.declared.Function.{Function}
 use Rattle.rungs.specs.Branches.{runsForward, value}
 use Rattle.tables.specs.Tables.{valueOf, derivativeOf}
 use Rattle.tables.proofs.Calls.{value-is, derivative-is}

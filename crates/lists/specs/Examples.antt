@@ -10,7 +10,7 @@ use Rattle.exponential.specs.Exponential.{exp}
 use Rattle.gamma.specs.Gamma.{gamma2}
 use Rattle.small_sums.specs.SmallSums.{dvsa}
 use Rattle.order.specs.Order.{shifted, topRung}
-use Rattle.rungs.specs.declared.Function.the-variants.{D, «V»}
+use Rattle.recurrence.specs.declared.Function.the-variants.{D, «V»}
 use Rattle.tables.specs.Tables.{refusal, tableAfter, answer}
 use Rattle.machine.specs.Machine.{Request, asks}
 use Rattle.ladder.specs.declared.Ladder.{Ladder}

@@ -12,8 +12,8 @@ use lib.Ieee.Bits.{ofBits-toBits}
 use Rattle.floats.specs.Operations.{_⊕_, bits, whole, f1}
 use Rattle.floats.specs.Functions.{absolute}
 use Rattle.order.specs.Order.{tooLarge, below, fractionOf, topRung}
-use Rattle.rungs.specs.declared.Function.{Function}
-use Rattle.rungs.specs.declared.Function.the-variants.{D, «V»}
+use Rattle.recurrence.specs.declared.Function.{Function}
+use Rattle.recurrence.specs.declared.Function.the-variants.{D, «V»}
 use Rattle.rungs.specs.Branches.{runsForward}
 use Rattle.tables.proofs.Calls.{accepted-by}
 use Rattle.machine.specs.declared.Held.{Held}

@@ -9,7 +9,7 @@ use lib.Ieee.Bits.{ofBits-toBits}
 use Rattle.floats.specs.Operations.{_⊕_, whole, f1}
 use Rattle.floats.specs.Functions.{alike, absolute}
 use Rattle.order.specs.Order.{below, fractionOf, topRung}
-use Rattle.rungs.specs.declared.Function.{Function}
+use Rattle.recurrence.specs.declared.Function.{Function}
 use Rattle.rungs.specs.Branches.{runsForward}
 use Rattle.tables.specs.Tables.{refusalBy}
 use Rattle.machine.specs.declared.Held.{Held}

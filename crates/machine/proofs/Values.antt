@@ -10,7 +10,7 @@ use Rattle.floats.specs.Operations.{_⊕_, bits, whole, decimal, f0}
 use Rattle.order.specs.Order.{topRung}
 use Rattle.order.specs.Order.Examples.{parts}
 use Rattle.order.proofs.Laws.{order-two, order-four, large, side, part, top}
-use Rattle.rungs.specs.declared.Function.the-variants.{D}
+use Rattle.recurrence.specs.declared.Function.the-variants.{D}
 use Rattle.rungs.proofs.Laws.{forward-runs}
 use Rattle.rungs.proofs.Values.{D-forward}
 use Rattle.tables.proofs.Calls.{not-refused}

@@ -9,8 +9,8 @@ use lib.Dec.{eqb, leb, ltb}
 use lib.Ieee.{Float, binary64, toBits}
 use Rattle.floats.specs.Operations.{_⊕_, bits, whole}
 use Rattle.order.specs.Order.{below, fractionOf, topRung}
-use Rattle.rungs.specs.declared.Function.{Function}
-use Rattle.rungs.specs.declared.Function.the-variants.{D, «V»}
+use Rattle.recurrence.specs.declared.Function.{Function}
+use Rattle.recurrence.specs.declared.Function.the-variants.{D, «V»}
 use Rattle.rungs.specs.Branches.{runsForward}
 use Rattle.tables.specs.Tables.{refusalBy}
 pub mod Open

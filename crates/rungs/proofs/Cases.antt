@@ -5,14 +5,15 @@ use lib.Ieee.{Float, neg, lt, le}
 use Rattle.floats.specs.Operations.{_⊗_, f0, f½}
 use Rattle.floats.specs.Functions.{absolute}
 use Rattle.logarithm.specs.Constants.{f2}
-use Rattle.rungs.specs.declared.Function.{Function}
-use Rattle.rungs.specs.declared.Function.the-variants.{D, «V»}
+use Rattle.recurrence.specs.declared.Function.{Function}
+use Rattle.recurrence.specs.declared.Function.the-variants.{D, «V»}
 use Rattle.rungs.specs.declared.Branch.the-variants.{Forward, Downward, Scaled}
 use Rattle.rungs.specs.Constants.{f7·5, f10}
 use Rattle.exponential.specs.Exponential.{exp}
 use Rattle.small_sums.specs.Constants.{quarter}
 use Rattle.start_sums.specs.Constants.{rootTwoOverPi}
-use Rattle.rungs.specs.Rungs.{startSum, smallLimit, startValue, startsGaussian, ownRungTwo, nextOrder, startRungs}
+use Rattle.recurrence.specs.Recurrence.{ownRungTwo}
+use Rattle.rungs.specs.Rungs.{startSum, smallLimit, startValue, startsGaussian, nextOrder, startRungs}
 use Rattle.rungs.specs.Rungs.Open.{startValue-is, gaussian-is, growth-is, startRungs-is}
 use Rattle.rungs.specs.Branches.{orderIsLow, runsDown, branchOf, runsForward}
 use Rattle.rungs.specs.Branches.Open.{branchOf-D-below, branchOf-V-above, isForward-Forward, isForward-Downward, isForward-Scaled, orderIsLow-is, runsDown-is, runsForward-is}

@@ -10,13 +10,15 @@ use Rattle.floats.specs.Operations.{_⊕_, _⊗_, _⊘_, whole, f0, f½}
 use Rattle.floats.specs.Functions.{absolute}
 use Rattle.order.specs.Facts.{Split}
 use Rattle.order.proofs.Laws.{joined-above, stays-above}
-use Rattle.rungs.specs.declared.Function.{Function}
-use Rattle.rungs.specs.declared.Function.the-variants.{D, «V»}
+use Rattle.recurrence.specs.declared.Function.{Function}
+use Rattle.recurrence.specs.declared.Function.the-variants.{D, «V»}
+use Rattle.recurrence.specs.Recurrence.{step, ownRungTwo, nextRung, stepDown, derivative}
+use Rattle.recurrence.proofs.Laws.{ownRungTwo-D, ownRungTwo-V-above, nextRung-is}
 use Rattle.rungs.specs.declared.Branch.{Branch}
 use Rattle.rungs.specs.declared.Branch.the-variants.{Forward, Downward, Scaled}
 use Rattle.rungs.specs.Constants.{f7·5, f10}
-use Rattle.rungs.specs.Rungs.{step, startValue, startRungs, ownRungTwo, nextRung, rungPair, rung, stepDown, lowered, descent, topRungs, downwardRung, seed, rawRung, scaledRung, derivative}
-use Rattle.rungs.specs.Rungs.Open.{ownRungTwo-D, ownRungTwo-V-above, nextRung-is, rungPair-zero, rungPair-suc, rung-is, lowered-zero, lowered-suc, descent-is, downwardRung-is, rawRung-is, scaledRung-is}
+use Rattle.rungs.specs.Rungs.{startValue, startRungs, rungPair, rung, lowered, descent, topRungs, downwardRung, seed, rawRung, scaledRung}
+use Rattle.rungs.specs.Rungs.Open.{rungPair-zero, rungPair-suc, rung-is, lowered-zero, lowered-suc, descent-is, downwardRung-is, rawRung-is, scaledRung-is}
 use Rattle.rungs.specs.Branches.{branchOf, isForward, runsForward, valueIn, value, derivativeAt}
 use Rattle.rungs.specs.Branches.Open.{branchOf-D-above, branchOf-D-below, branchOf-V-above, branchOf-V-below, isForward-Forward, isForward-Downward, isForward-Scaled, orderIsLow-is, runsDown-is, runsForward-is, value-is, valueIn-Forward, valueIn-Downward, valueIn-Scaled, derivativeAt-is}
 
@@ -177,10 +179,6 @@ pub own-forward : (fn : Function) (below : Bool) (x u f : Float) → ownRungTwo 
 own-forward D below x u f e = absurd (true≢false (sym e ∙ ownRungTwo-D below f))
 own-forward «V» false x u f e = absurd (true≢false (sym e ∙ ownRungTwo-V-above f))
 own-forward «V» true x u f e = branchOf-V-below x u
-
--- D has no rung 2 of its own
-pub no-own-two : (below : Bool) (f : Float) → ownRungTwo D below f ≡ false
-no-own-two below f = ownRungTwo-D below f
 
 -- ---- forward branches
 

@@ -4,25 +4,22 @@ use mathlib.Core.Path.{_≡_, sym, ap, _∙_}
 use Prim.Native.Nat.{ℕ, suc, _+_}
 use native.Mathlib.Omega.{arith}
 use mathlib.Core.Bool.{true, false}
-use mathlib.Core.List.{List}
-use lib.ListN.{getD}
-use lib.Ieee.{Float, nan, add, mul, neg, le, eq, ofBits}
+use lib.Ieee.{Float, add, mul, neg, le, eq, ofBits}
 use Rattle.floats.specs.Operations.{_⊗_, decimal, f0, f1}
 use Rattle.floats.specs.Functions.{absolute}
 use Rattle.exponential.proofs.Laws.{exp-zero, exp-minus-zero}
 use Rattle.start_sums.specs.Constants.{rootTwoOverPi}
 use Rattle.small_sums.proofs.Laws.{vvsa-zero-zero}
-use Rattle.rungs.specs.declared.Function.the-variants.{D, «V»}
+use Rattle.recurrence.specs.declared.Function.the-variants.{D, «V»}
+use Rattle.recurrence.specs.Recurrence.{step, nextRung, derivative}
+use Rattle.recurrence.proofs.Laws.{ownRungTwo-D, ownRungTwo-V-below, nextRung-is, derivative-V-below}
+use Rattle.recurrence.proofs.Values.{at}
 use Rattle.rungs.specs.declared.Branch.the-variants.{Forward}
-use Rattle.rungs.specs.Rungs.{step, startValue, startRungs, ownRungTwo, nextRung, rung, derivative}
-use Rattle.rungs.specs.Rungs.Open.{startSum-V-small, smallLimit-V, startValue-is, gaussian-is, growth-is, startsGaussian-D-above, startsGaussian-V, startRungs-is, ownRungTwo-D, ownRungTwo-V-below, nextRung-is, derivative-V-below}
-use Rattle.rungs.specs.Rungs.Examples.{computed, values, examples-hold}
+use Rattle.rungs.specs.Rungs.{startValue, startRungs, rung}
+use Rattle.rungs.specs.Rungs.Open.{startSum-V-small, smallLimit-V, startValue-is, gaussian-is, growth-is, startsGaussian-D-above, startsGaussian-V, startRungs-is}
 use Rattle.rungs.specs.Branches.{branchOf}
 use Rattle.rungs.specs.Branches.Open.{branchOf-D-above, branchOf-V-below}
 use Rattle.rungs.proofs.Laws.{rungs-zero-one, rung-next, own-rung-two}
-
-at : (n : ℕ) → getD computed n nan ≡ getD values n nan
-at n = ap (λ (l : List Float). getD l n nan) examples-hold
 
 -- ---- D from order 0 on
 
@@ -63,18 +60,6 @@ D-rung-4 = sym (step-to 2 (neg f1) (neg f0) D-rung-2 D-rung-3) ∙ plain 4 (neg 
 pub D-rung-5 : rung D false f0 f0 5 ≡ f0
 D-rung-5 = sym (step-to 3 (neg f0) (decimal 3 0) D-rung-3 D-rung-4) ∙ plain 5 (neg f0) (decimal 3 0) ∙ at 3
 
-pub D-derivative-0 : derivative D false f0 f0 0 f1 f0 ≡ f0
-D-derivative-0 = at 4
-
-pub D-derivative-1 : derivative D false f0 f0 1 f0 (neg f1) ≡ f1
-D-derivative-1 = at 5
-
-pub D-derivative-2 : derivative D false f0 f0 2 (neg f1) (neg f0) ≡ f0
-D-derivative-2 = at 6
-
-pub D-derivative-4 : derivative D false f0 f0 4 (decimal 3 0) f0 ≡ f0
-D-derivative-4 = at 7
-
 -- ---- V below 0
 
 pub V-forward : (x u : Float) → branchOf «V» true x u ≡ Forward
@@ -107,7 +92,3 @@ V-derivative-1 = derivative-V-below f0 f0 1 rootTwoOverPi f0
 pub V-derivative-0 : derivative «V» true f0 f0 0 f0 rootTwoOverPi ≡ rootTwoOverPi
 unfolding add mul neg ofBits
 V-derivative-0 = derivative-V-below f0 f0 0 f0 rootTwoOverPi
-
-pub V-own-two : ownRungTwo «V» true f0 ≡ true
-unfolding eq ofBits
-V-own-two = ownRungTwo-V-below f0

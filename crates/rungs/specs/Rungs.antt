@@ -1,36 +1,23 @@
--- The rungs of D and V (01, "Upward, downward, scaled"; the source's pbdv_impl and pbvv_impl; DLMF 12.8), each operation rounded.
+-- The rungs of D and V (01, "Upward, downward, scaled"; the source's pbdv_impl and pbvv_impl), each operation rounded. The steps are of `recurrence`.
 -- Rung k has the order f + k on the side v ≥ 0 and f − k below 0, where `below` is true. DLMF's U(a, x) and V(a, x) have a = −order − ½; D is U.
 -- In each formula `low` and `high` are the values of two neighbouring rungs, `low` that of the lower number.
 use Prim.Native.Nat.{ℕ, zero, suc, _+_, _-_}
-use mathlib.Core.Bool.{Bool, true, false, _&&_, cond}
-use lib.Dec.{eqb}
+use mathlib.Core.Bool.{Bool, true, false, cond}
 use lib.Ieee.{Float, neg, le, eq}
-use Rattle.floats.specs.Operations.{_⊕_, _⊖_, _⊗_, _⊘_, whole, f0, f½, f1}
+use Rattle.floats.specs.Operations.{_⊕_, _⊖_, _⊗_, _⊘_, whole, f0, f1}
 use Rattle.floats.specs.Functions.{absolute}
-use Rattle.logarithm.specs.Constants.{f2}
 use Rattle.exponential.specs.Exponential.{exp}
 use Rattle.small_sums.specs.Constants.{quarter}
 use Rattle.start_sums.specs.Constants.{rootTwoOverPi}
 use Rattle.small_sums.specs.SmallSums.{dvsa, vvsa}
 use Rattle.start_sums.specs.StartSums.{dvla, vvla}
-use Rattle.rungs.specs.declared.Function.{Function}
-use Rattle.rungs.specs.declared.Function.the-variants.{D, «V»}
+use Rattle.recurrence.specs.declared.Function.{Function}
+use Rattle.recurrence.specs.declared.Function.the-variants.{D, «V»}
+use Rattle.recurrence.specs.Recurrence.{ownRungTwo, nextRung, stepDown}
 use Rattle.rungs.specs.Constants.{f5·8, f7·5, seedD, seedV}
 pub mod Open
-pub mod Examples
 
 -- ---- upward
-
--- rung k from rungs k − 2 and k − 1
-pub step : Function → Bool → Float → Float → ℕ → Float → Float → Float
--- 12.8.1 at rung k − 1, a + ½ = −(f + k − 1)
-step D false x f k low high = x ⊗ high ⊖ (whole k ⊕ f ⊖ f1) ⊗ low
--- 12.8.1 at rung k − 1, a + ½ = k − 1 − f
-step D true x f k low high = (neg x ⊗ high ⊕ low) ⊘ (whole k ⊖ f1 ⊖ f)
--- 12.8.5 at rung k − 1, a − ½ = −(f + k)
-step «V» false x f k low high = (x ⊗ high ⊖ low) ⊘ (whole k ⊕ f)
--- 12.8.5 at rung k − 1, a − ½ = k − f − 2
-step «V» true x f k low high = x ⊗ high ⊕ (whole k ⊖ f ⊖ f2) ⊗ low
 
 -- the start sums, for large arguments or for small ones. No other definition of tables and ladder cites them.
 pub startSum : Function → Bool → Float → Float → Float
@@ -61,12 +48,6 @@ startsGaussian D false f = eq f f0
 startsGaussian D true f = false
 startsGaussian «V» below f = false
 
--- V below 0, at f = 0: rung 1 is 12.7.3's at n = 0, and rung 2, x times rung 1, is the one at n = 1 and no step
-pub ownRungTwo : Function → Bool → Float → Bool
-ownRungTwo D below f = false
-ownRungTwo «V» false f = false
-ownRungTwo «V» true f = eq f f0
-
 -- the order of rung 1
 pub nextOrder : Bool → Float → Float
 nextOrder false f = f ⊕ f1
@@ -78,10 +59,6 @@ startRungs fn below x f =
     cond (startsGaussian fn below f) (gaussian x, x ⊗ gaussian x)
     (cond (ownRungTwo fn below f) (startValue fn x f, rootTwoOverPi ⊗ growth x) (startValue fn x f, startValue fn x (nextOrder below f)))
 
--- rung k of a forward branch: its own formula at 2 where it has one, and else a step
-pub nextRung : Function → Bool → Float → Float → ℕ → Float → Float → Float
-nextRung fn below x f k low high = cond (ownRungTwo fn below f && eqb k 2) (x ⊗ high) (step fn below x f k low high)
-
 -- rungs k and k + 1, and rung k, of the forward branches: a sequence that knows no n
 pub rungPair : Function → Bool → Float → Float → ℕ → Float × Float
 rungPair fn below x f zero = startRungs fn below x f
@@ -91,13 +68,6 @@ pub rung : Function → Bool → Float → Float → ℕ → Float
 rung fn below x f k = rungPair fn below x f k .0
 
 -- ---- downward: D below 0, V from 0 on
-
--- rung k from rungs k + 1 and k + 2
-pub stepDown : Function → Float → Float → ℕ → Float → Float → Float
--- 12.8.1 at rung k + 1, a + ½ = k + 1 − f
-stepDown D x f k low high = x ⊗ low ⊕ (whole k ⊖ f ⊕ f1) ⊗ high
--- 12.8.5 at rung k + 1, a − ½ = −(k + f + 2)
-stepDown «V» x f k low high = x ⊗ low ⊖ (whole k ⊕ f ⊕ f2) ⊗ high
 
 -- rungs top − j and top − j + 1, from `low` and `high` at top and top + 1
 pub lowered : Function → Float → Float → ℕ → Float → Float → ℕ → Float × Float
@@ -131,15 +101,3 @@ rawRung fn x f n = descent fn x f (n + 101) (seed fn) f0
 -- each raw rung is multiplied by what rung 0 is by its start sum, divided by raw rung 0
 pub scaledRung : Function → Float → Float → ℕ → ℕ → Float
 scaledRung fn x f n k = rawRung fn x f n k ⊗ (startValue fn x f ⊘ rawRung fn x f n 0)
-
--- ---- the derivative of rung k, from rungs k and k + 1
-
-pub derivative : Function → Bool → Float → Float → ℕ → Float → Float → Float
--- 12.8.3
-derivative D false x f k low high = f½ ⊗ x ⊗ low ⊖ high
--- 12.8.2, a + ½ = k − f, and f is not above 0
-derivative D true x f k low high = neg f½ ⊗ x ⊗ low ⊖ (absolute f ⊕ whole k) ⊗ high
--- 12.8.6, a − ½ = −(f + k + 1)
-derivative «V» false x f k low high = f½ ⊗ x ⊗ low ⊖ (f ⊕ whole k ⊕ f1) ⊗ high
--- 12.8.7
-derivative «V» true x f k low high = neg f½ ⊗ x ⊗ low ⊕ high

@@ -1,11 +1,11 @@
 // The branch of a table.
 
 ghost use mathlib.Core.Path.{_≡_};
-ghost use Rattle.rungs.specs.declared.Function.the-variants.{D, «V»};
+ghost use Rattle.recurrence.specs.declared.Function.the-variants.{D, «V»};
 ghost use Rattle.rungs.specs.Branches.{orderIsLow, runsDown, branchOf, runsForward};
 use crate::Branch;
-use crate::Function;
 use floats::abs;
+use recurrence::Function;
 
 // D's branch; u plays no part in it.
 fn branch_d(below: bool, x: f64, u: f64) -> Branch

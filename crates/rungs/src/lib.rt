@@ -1,27 +1,21 @@
-// The rungs of D and V: their recurrences and derivative formulas, the values that they start from, and the branch that gives them. Each public
-// function answers every input.
+// The rungs of D and V: the values that they start from, and the branch that gives them. Each public function answers every input. The steps and
+// derivatives are of `recurrence`.
 
 mod branches;
-mod recurrence;
 mod start;
 
 pub use branches::branch_of;
 pub use branches::runs_forward;
+pub use recurrence::Function;
 pub use recurrence::derivative;
+pub use recurrence::has_own_rung_two;
 pub use recurrence::rung_two;
 pub use recurrence::step;
 pub use recurrence::step_down;
-pub use start::has_own_rung_two;
 pub use start::seed;
 pub use start::start_rungs;
 pub use start::start_value;
 pub use start::top_rungs;
-
-// Which function: D is DLMF's U, by its order.
-pub enum Function {
-    D,
-    V,
-}
 
 // Values of two neighbouring rungs: `low` that of the lower number.
 pub struct Adjacent {

@@ -1,12 +1,13 @@
 // The values that the branches start from.
 
 ghost use mathlib.Core.Path.{_≡_};
-ghost use Rattle.rungs.specs.Rungs.{startSum, smallLimit, startValue, startsGaussian, nextOrder, startRungs, ownRungTwo, topRungs, seed};
+ghost use Rattle.rungs.specs.Rungs.{startSum, smallLimit, startValue, startsGaussian, nextOrder, startRungs, topRungs, seed};
 use crate::Adjacent;
-use crate::Function;
 use exponential::exp;
 use floats::abs;
 use order::Rung;
+use recurrence::Function;
+use recurrence::has_own_rung_two;
 use start_sums::constants::SQRT_FRAC_2_PI;
 
 // The function by its start sum, for large or for small arguments.
@@ -47,21 +48,6 @@ pub fn start_value(function: Function, x: f64, va: f64) -> f64
         return start_sum(function, false, x, va);
     }
     start_sum(function, true, x, va)
-}
-
-// Whether rung 2 is x times rung 1: V below 0, at f = 0.
-pub fn has_own_rung_two(function: Function, below: bool, f: f64) -> bool
-    ensures { λ r. ⌜ r ≡ ownRungTwo function below f ⌝ }
-{
-    match function {
-        Function::D => false,
-        Function::V => {
-            if below {
-                return f == 0.0;
-            }
-            false
-        }
-    }
 }
 
 // Whether rungs 0 and 1 are e^(-x²/4) and x times it: D from order 0 on, at f = 0.

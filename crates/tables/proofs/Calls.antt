@@ -14,7 +14,7 @@ use lib.Ieee.{Float, nan, isNan}
 use Rattle.order.specs.Order.{tooLarge, below, shifted, fractionOf, topRung, num}
 use Rattle.order.specs.Facts.{Split}
 use Rattle.order.proofs.Laws.{num-least}
-use Rattle.rungs.specs.declared.Function.{Function}
+use Rattle.recurrence.specs.declared.Function.{Function}
 use Rattle.rungs.specs.Branches.{value, derivativeAt}
 use Rattle.columns.specs.Filled.{filled}
 use Rattle.columns.specs.Columns.{slot, valuesIn, bothColumns}

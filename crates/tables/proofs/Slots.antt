@@ -12,8 +12,8 @@ use Rattle.order.specs.Order.{below, shifted, fractionOf, topRung, num}
 use Rattle.order.specs.Facts.{Split}
 use Rattle.order.proofs.Facts.{split-facts}
 use Rattle.order.proofs.Laws.{num-least}
-use Rattle.rungs.specs.declared.Function.{Function}
-use Rattle.rungs.specs.Rungs.{ownRungTwo}
+use Rattle.recurrence.specs.declared.Function.{Function}
+use Rattle.recurrence.specs.Recurrence.{ownRungTwo}
 use Rattle.columns.specs.Filled.{filled}
 use Rattle.columns.specs.Columns.{slot}
 use Rattle.tables.specs.Tables.{refusal, valueOf, derivativeOf, valuesWritten, tableAfter}

@@ -13,13 +13,16 @@ use Rattle.order.specs.Order.{f1000, tooLarge, below, shifted, fractionOf, topR
 use Rattle.order.specs.Order.Examples.{Parts, parts}
 use Rattle.order.proofs.Laws.{order-zero, order-one, order-two, order-minus-one, order-1000, order-999½, order-below-one, order-tiny-below, order-four, large, side, part, top, columns}
 use Rattle.start_sums.specs.Constants.{rootTwoOverPi}
-use Rattle.rungs.specs.declared.Function.{Function}
+use Rattle.recurrence.specs.declared.Function.{Function}
+use Rattle.recurrence.specs.declared.Function.the-variants.{D, «V»}
+use Rattle.recurrence.specs.Recurrence.{derivative}
+use Rattle.recurrence.proofs.Laws.{no-own-two}
+use Rattle.recurrence.proofs.Values.{D-derivative-0, D-derivative-1, D-derivative-2, D-derivative-4, V-own-two}
 use Rattle.rungs.specs.declared.Branch.the-variants.{Forward}
 use Rattle.rungs.specs.Branches.{branchOf}
-use Rattle.rungs.specs.declared.Function.the-variants.{D, «V»}
-use Rattle.rungs.specs.Rungs.{rung, derivative}
-use Rattle.rungs.proofs.Laws.{value-forward, derivative-at, no-own-two}
-use Rattle.rungs.proofs.Values.{D-forward, D-rung-0, D-rung-1, D-rung-2, D-rung-3, D-rung-4, D-rung-5, D-derivative-0, D-derivative-1, D-derivative-2, D-derivative-4, V-forward, V-rung-0, V-rung-1, V-rung-2, V-derivative-0, V-derivative-1, V-own-two}
+use Rattle.rungs.specs.Rungs.{rung}
+use Rattle.rungs.proofs.Laws.{value-forward, derivative-at}
+use Rattle.rungs.proofs.Values.{D-forward, D-rung-0, D-rung-1, D-rung-2, D-rung-3, D-rung-4, D-rung-5, V-forward, V-rung-0, V-rung-1, V-rung-2, V-derivative-0, V-derivative-1}
 use Rattle.columns.specs.Filled.{filled}
 use Rattle.columns.proofs.Tables.{three-values, plain-values}
 use Rattle.tables.specs.Tables.{refusal, valueOf, derivativeOf, valuesWritten, tableAfter, answer}

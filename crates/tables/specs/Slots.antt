@@ -8,8 +8,8 @@ use Prim.Native.Nat.{ℕ, _+_, _-_, _≤_, _<_}
 use lib.ListN.{length}
 use lib.Ieee.{Float}
 use Rattle.order.specs.Order.{below, fractionOf, topRung, num}
-use Rattle.rungs.specs.declared.Function.{Function}
-use Rattle.rungs.specs.Rungs.{ownRungTwo}
+use Rattle.recurrence.specs.declared.Function.{Function}
+use Rattle.recurrence.specs.Recurrence.{ownRungTwo}
 use Rattle.columns.specs.Columns.{slot}
 use Rattle.tables.specs.Tables.{valueOf, derivativeOf, valuesWritten, tableAfter, answer}
 

@@ -8,7 +8,7 @@ use lib.Dec.{eqb, ltb}
 use lib.ListN.{length}
 use lib.Ieee.{Float, isNan}
 use Rattle.order.specs.Order.{tooLarge, below, shifted, fractionOf, topRung, num}
-use Rattle.rungs.specs.declared.Function.{Function}
+use Rattle.recurrence.specs.declared.Function.{Function}
 use Rattle.rungs.specs.Branches.{value, derivativeAt}
 use Rattle.tables.specs.declared.Answer.{Answer}
 use Rattle.tables.specs.declared.Answer.the-variants.{Pair, Refused}

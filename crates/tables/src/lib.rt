@@ -4,7 +4,7 @@ mod requests;
 
 ghost use mathlib.Core.Path.{_≡_};
 ghost use lib.ListN.{length};
-ghost use Rattle.rungs.specs.declared.Function.the-variants.{D, «V»};
+ghost use Rattle.recurrence.specs.declared.Function.the-variants.{D, «V»};
 ghost use Rattle.tables.specs.Tables.{refusalOf, pairOf, refusal, tableAfter, answer};
 pub use requests::refusal_by;
 pub use requests::table;

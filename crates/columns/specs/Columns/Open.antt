@@ -6,8 +6,8 @@ use lib.Dec.{eqb}
 use Prim.Native.Nat.{ℕ, _+_}
 use lib.ListN.{length}
 use lib.Ieee.{Float}
-use Rattle.rungs.specs.declared.Function.{Function}
-use Rattle.rungs.specs.Rungs.{ownRungTwo}
+use Rattle.recurrence.specs.declared.Function.{Function}
+use Rattle.recurrence.specs.Recurrence.{ownRungTwo}
 use Rattle.rungs.specs.Branches.{value, derivativeAt}
 use Rattle.columns.specs.Filled.{filled}
 use Rattle.columns.specs.Columns.{roomFor, valueColumn, derivativeColumn, roomIn, valuesIn, bothColumns}

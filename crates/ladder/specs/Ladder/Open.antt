@@ -7,8 +7,8 @@ use lib.ListN.{length}
 use lib.Ieee.{Float}
 use Rattle.floats.specs.Operations.{f0}
 use Rattle.order.specs.Order.{below, fractionOf, topRung}
-use Rattle.rungs.specs.declared.Function.the-variants.{D}
-use Rattle.rungs.specs.Rungs.{step, derivative}
+use Rattle.recurrence.specs.declared.Function.the-variants.{D}
+use Rattle.recurrence.specs.Recurrence.{step, derivative}
 use Rattle.columns.specs.Filled.{filled}
 use Rattle.tables.specs.Tables.{valueOf, derivativeOf}
 use Rattle.machine.specs.Machine.{Request, asked, refuses, repeats, climbs, startsOver, written, verdict}

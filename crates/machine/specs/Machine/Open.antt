@@ -8,8 +8,8 @@ use lib.Dec.{eqb, leb, ltb}
 use lib.Ieee.{Float, binary64, toBits}
 use Rattle.floats.specs.Operations.{_⊕_, bits, whole}
 use Rattle.order.specs.Order.{below, fractionOf, topRung}
-use Rattle.rungs.specs.declared.Function.{Function}
-use Rattle.rungs.specs.declared.Function.the-variants.{D, «V»}
+use Rattle.recurrence.specs.declared.Function.{Function}
+use Rattle.recurrence.specs.declared.Function.the-variants.{D, «V»}
 use Rattle.rungs.specs.Branches.{runsForward}
 use Rattle.tables.specs.Tables.{refusalBy}
 use Rattle.machine.specs.Machine.{Request, Feed, asked, tooShort, refusal, Machine, empty, holds, bitsOf, holding, refuses, repeats, climbs, startsOver, written, sameFunction, sameRungs, mayClimb, caseBy, caseOf, verdict, next, verdicts, after}

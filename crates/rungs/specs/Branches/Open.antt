@@ -6,11 +6,12 @@ use lib.Ieee.{Float, lt, le}
 use Rattle.floats.specs.Operations.{_⊗_, f0, f½}
 use Rattle.floats.specs.Functions.{absolute}
 use Rattle.logarithm.specs.Constants.{f2}
-use Rattle.rungs.specs.declared.Function.{Function}
-use Rattle.rungs.specs.declared.Function.the-variants.{D, «V»}
+use Rattle.recurrence.specs.declared.Function.{Function}
+use Rattle.recurrence.specs.declared.Function.the-variants.{D, «V»}
+use Rattle.recurrence.specs.Recurrence.{derivative}
 use Rattle.rungs.specs.declared.Branch.the-variants.{Forward, Downward, Scaled}
 use Rattle.rungs.specs.Constants.{f7·5, f10}
-use Rattle.rungs.specs.Rungs.{rung, downwardRung, scaledRung, derivative}
+use Rattle.rungs.specs.Rungs.{rung, downwardRung, scaledRung}
 use Rattle.rungs.specs.Branches.{orderIsLow, runsDown, branchOf, isForward, runsForward, valueIn, value, derivativeAt}
 
 pub orderIsLow-is : (x : Float) (u : Float) → orderIsLow x u ≡ (le (absolute x) f10 && le u (f½ ⊗ x ⊗ x))

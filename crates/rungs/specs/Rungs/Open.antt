@@ -1,38 +1,21 @@
 -- What each definition is, case by case, for the proofs of this crate. No other crate cites this module.
 use mathlib.Core.Path.{_≡_, refl}
 use Prim.Native.Nat.{ℕ, zero, suc, _+_, _-_}
-use mathlib.Core.Bool.{Bool, true, false, _&&_, cond}
-use lib.Dec.{eqb}
+use mathlib.Core.Bool.{Bool, true, false, cond}
 use lib.Ieee.{Float, neg, le, eq}
-use Rattle.floats.specs.Operations.{_⊕_, _⊖_, _⊗_, _⊘_, whole, f0, f½, f1}
+use Rattle.floats.specs.Operations.{_⊕_, _⊖_, _⊗_, _⊘_, whole, f0, f1}
 use Rattle.floats.specs.Functions.{absolute}
-use Rattle.logarithm.specs.Constants.{f2}
 use Rattle.exponential.specs.Exponential.{exp}
 use Rattle.small_sums.specs.Constants.{quarter}
 use Rattle.start_sums.specs.Constants.{rootTwoOverPi}
 use Rattle.small_sums.specs.SmallSums.{dvsa, vvsa}
 use Rattle.start_sums.specs.StartSums.{dvla, vvla}
-use Rattle.rungs.specs.declared.Function.{Function}
-use Rattle.rungs.specs.declared.Function.the-variants.{D, «V»}
+use Rattle.recurrence.specs.declared.Function.{Function}
+use Rattle.recurrence.specs.declared.Function.the-variants.{D, «V»}
+use Rattle.recurrence.specs.Recurrence.{ownRungTwo, nextRung, stepDown}
 use Rattle.rungs.specs.Constants.{f5·8, f7·5, seedD, seedV}
-use Rattle.rungs.specs.Rungs.{step, startSum, smallLimit, startValue, gaussian, growth, startsGaussian, ownRungTwo, nextOrder, startRungs, nextRung, rungPair, rung}
-use Rattle.rungs.specs.Rungs.{stepDown, lowered, descent, topRungs, downwardRung, seed, rawRung, scaledRung, derivative}
-
-pub step-D-above : (x : Float) (f : Float) (k : ℕ) (low : Float) (high : Float) → step D false x f k low high ≡ x ⊗ high ⊖ (whole k ⊕ f ⊖ f1) ⊗ low
-unfolding step
-step-D-above x f k low high = refl
-
-pub step-D-below : (x : Float) (f : Float) (k : ℕ) (low : Float) (high : Float) → step D true x f k low high ≡ (neg x ⊗ high ⊕ low) ⊘ (whole k ⊖ f1 ⊖ f)
-unfolding step
-step-D-below x f k low high = refl
-
-pub step-V-above : (x : Float) (f : Float) (k : ℕ) (low : Float) (high : Float) → step «V» false x f k low high ≡ (x ⊗ high ⊖ low) ⊘ (whole k ⊕ f)
-unfolding step
-step-V-above x f k low high = refl
-
-pub step-V-below : (x : Float) (f : Float) (k : ℕ) (low : Float) (high : Float) → step «V» true x f k low high ≡ x ⊗ high ⊕ (whole k ⊖ f ⊖ f2) ⊗ low
-unfolding step
-step-V-below x f k low high = refl
+use Rattle.rungs.specs.Rungs.{startSum, smallLimit, startValue, gaussian, growth, startsGaussian, nextOrder, startRungs, rungPair, rung}
+use Rattle.rungs.specs.Rungs.{lowered, descent, topRungs, downwardRung, seed, rawRung, scaledRung}
 
 pub startSum-D-small : (x : Float) (va : Float) → startSum D false x va ≡ dvsa x va
 unfolding startSum
@@ -97,22 +80,6 @@ pub startRungs-is : (fn : Function) (below : Bool) (x f : Float)
 unfolding startRungs
 startRungs-is fn below x f = refl
 
-pub ownRungTwo-D : (below : Bool) (f : Float) → ownRungTwo D below f ≡ false
-unfolding ownRungTwo
-ownRungTwo-D below f = refl
-
-pub ownRungTwo-V-above : (f : Float) → ownRungTwo «V» false f ≡ false
-unfolding ownRungTwo
-ownRungTwo-V-above f = refl
-
-pub ownRungTwo-V-below : (f : Float) → ownRungTwo «V» true f ≡ eq f f0
-unfolding ownRungTwo
-ownRungTwo-V-below f = refl
-
-pub nextRung-is : (fn : Function) (below : Bool) (x : Float) (f : Float) (k : ℕ) (low : Float) (high : Float) → nextRung fn below x f k low high ≡ cond (ownRungTwo fn below f && eqb k 2) (x ⊗ high) (step fn below x f k low high)
-unfolding nextRung
-nextRung-is fn below x f k low high = refl
-
 pub rungPair-zero : (fn : Function) (below : Bool) (x : Float) (f : Float) → rungPair fn below x f zero ≡ startRungs fn below x f
 unfolding rungPair
 rungPair-zero fn below x f = refl
@@ -124,14 +91,6 @@ rungPair-suc fn below x f k = refl
 pub rung-is : (fn : Function) (below : Bool) (x : Float) (f : Float) (k : ℕ) → rung fn below x f k ≡ rungPair fn below x f k .0
 unfolding rung
 rung-is fn below x f k = refl
-
-pub stepDown-D : (x : Float) (f : Float) (k : ℕ) (low : Float) (high : Float) → stepDown D x f k low high ≡ x ⊗ low ⊕ (whole k ⊖ f ⊕ f1) ⊗ high
-unfolding stepDown
-stepDown-D x f k low high = refl
-
-pub stepDown-V : (x : Float) (f : Float) (k : ℕ) (low : Float) (high : Float) → stepDown «V» x f k low high ≡ x ⊗ low ⊖ (whole k ⊕ f ⊕ f2) ⊗ high
-unfolding stepDown
-stepDown-V x f k low high = refl
 
 pub lowered-zero : (fn : Function) (x : Float) (f : Float) (top : ℕ) (low : Float) (high : Float) → lowered fn x f top low high zero ≡ (low, high)
 unfolding lowered
@@ -172,19 +131,3 @@ rawRung-is fn x f n = refl
 pub scaledRung-is : (fn : Function) (x : Float) (f : Float) (n : ℕ) (k : ℕ) → scaledRung fn x f n k ≡ rawRung fn x f n k ⊗ (startValue fn x f ⊘ rawRung fn x f n 0)
 unfolding scaledRung
 scaledRung-is fn x f n k = refl
-
-pub derivative-D-above : (x : Float) (f : Float) (k : ℕ) (low : Float) (high : Float) → derivative D false x f k low high ≡ f½ ⊗ x ⊗ low ⊖ high
-unfolding derivative
-derivative-D-above x f k low high = refl
-
-pub derivative-D-below : (x : Float) (f : Float) (k : ℕ) (low : Float) (high : Float) → derivative D true x f k low high ≡ neg f½ ⊗ x ⊗ low ⊖ (absolute f ⊕ whole k) ⊗ high
-unfolding derivative
-derivative-D-below x f k low high = refl
-
-pub derivative-V-above : (x : Float) (f : Float) (k : ℕ) (low : Float) (high : Float) → derivative «V» false x f k low high ≡ f½ ⊗ x ⊗ low ⊖ (f ⊕ whole k ⊕ f1) ⊗ high
-unfolding derivative
-derivative-V-above x f k low high = refl
-
-pub derivative-V-below : (x : Float) (f : Float) (k : ℕ) (low : Float) (high : Float) → derivative «V» true x f k low high ≡ neg f½ ⊗ x ⊗ low ⊕ high
-unfolding derivative
-derivative-V-below x f k low high = refl

@@ -1,7 +1,7 @@
--- `rungs::recurrence::rung_two` meets its contract: rung 2 has its own formula, or is a step.
-use Rattle.rungs.specs.Rungs.Open.{nextRung-is}
-use Rattle.rungs.proofs.recurrence.rung_two.Statement.{statement}
-use Rattle.rungs.proofs.recurrence.rung_two.Tie as tie
+-- `recurrence::rung_two` meets its contract: rung 2 has its own formula, or is a step.
+use Rattle.recurrence.specs.Recurrence.Open.{nextRung-is}
+use Rattle.recurrence.proofs.rung_two.Statement.{statement}
+use Rattle.recurrence.proofs.rung_two.Tie as tie
 
 pub rung-two-spec : {M : Type 1} → statement M
 rung-two-spec =

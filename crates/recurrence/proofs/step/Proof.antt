@@ -1,7 +1,7 @@
--- `rungs::recurrence::step` meets its contract: each arm is the definition's clause.
-use Rattle.rungs.specs.Rungs.Open.{step-D-above, step-D-below, step-V-above, step-V-below}
-use Rattle.rungs.proofs.recurrence.step.Statement.{statement}
-use Rattle.rungs.proofs.recurrence.step.Tie as tie
+-- `recurrence::step` meets its contract: each arm is the definition's clause.
+use Rattle.recurrence.specs.Recurrence.Open.{step-D-above, step-D-below, step-V-above, step-V-below}
+use Rattle.recurrence.proofs.step.Statement.{statement}
+use Rattle.recurrence.proofs.step.Tie as tie
 
 pub step-spec : {M : Type 1} → statement M
 step-spec =

@@ -1,13 +1,12 @@
--- Steps, derivatives and branches, proved by computing them: one list of each, and one theorem over it. Start sums and exp are shut here, so the values
--- that need them stand in proofs/Values.antt, by their own laws.
+-- Steps and derivatives, proved by computing them: one list, and one theorem over it.
 use mathlib.Core.Path.{_≡_, refl}
 use mathlib.Core.Bool.{true, false}
 use mathlib.Core.List.{List, [], _∷_, map}
 use lib.Ieee.{Float, add, sub, mul, div, neg, ofBits, ofInt}
 use Rattle.floats.specs.Operations.{decimal, f0, f½, f1}
 use Rattle.floats.specs.Functions.{absolute}
-use Rattle.rungs.specs.declared.Function.the-variants.{D, «V»}
-use Rattle.rungs.specs.Rungs.{step, stepDown, derivative}
+use Rattle.recurrence.specs.declared.Function.the-variants.{D, «V»}
+use Rattle.recurrence.specs.Recurrence.{step, stepDown, derivative}
 
 -- a formula at its operands, and its value there
 abbrev pub examples : List (Float × Float)

@@ -1,11 +1,15 @@
-// One step of each recurrence, and one derivative.
+// The recurrences of D and V: one step of each, and one derivative. Each function answers every input.
 
 ghost use mathlib.Core.Path.{_≡_};
-ghost use Rattle.rungs.specs.Rungs.{step, nextRung, stepDown, derivative};
-use crate::Function;
-use crate::start::has_own_rung_two;
+ghost use Rattle.recurrence.specs.Recurrence.{step, ownRungTwo, nextRung, stepDown, derivative};
 use floats::abs;
 use order::Rung;
+
+// Which function: D is DLMF's U, by its order.
+pub enum Function {
+    D,
+    V,
+}
 
 // Rung k from the two below it.
 pub fn step(function: Function, below: bool, x: f64, f: f64, k: Rung, low: f64, high: f64) -> f64
@@ -24,6 +28,21 @@ pub fn step(function: Function, below: bool, x: f64, f: f64, k: Rung, low: f64, 
                 return x * high + (kf - f - 2.0) * low;
             }
             (x * high - low) / (kf + f)
+        }
+    }
+}
+
+// Whether rung 2 is x times rung 1: V below 0, at f = 0.
+pub fn has_own_rung_two(function: Function, below: bool, f: f64) -> bool
+    ensures { λ r. ⌜ r ≡ ownRungTwo function below f ⌝ }
+{
+    match function {
+        Function::D => false,
+        Function::V => {
+            if below {
+                return f == 0.0;
+            }
+            false
         }
     }
 }

@@ -1,7 +1,7 @@
--- `rungs::recurrence::derivative` meets its contract: each arm is the definition's clause.
-use Rattle.rungs.specs.Rungs.Open.{derivative-D-above, derivative-D-below, derivative-V-above, derivative-V-below}
-use Rattle.rungs.proofs.recurrence.derivative.Statement.{statement}
-use Rattle.rungs.proofs.recurrence.derivative.Tie as tie
+-- `recurrence::derivative` meets its contract: each arm is the definition's clause.
+use Rattle.recurrence.specs.Recurrence.Open.{derivative-D-above, derivative-D-below, derivative-V-above, derivative-V-below}
+use Rattle.recurrence.proofs.derivative.Statement.{statement}
+use Rattle.recurrence.proofs.derivative.Tie as tie
 
 pub derivative-spec : {M : Type 1} → statement M
 derivative-spec =

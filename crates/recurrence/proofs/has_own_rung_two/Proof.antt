@@ -1,7 +1,7 @@
--- `rungs::start::has_own_rung_two` meets its contract: each arm is the definition's clause.
-use Rattle.rungs.specs.Rungs.Open.{ownRungTwo-D, ownRungTwo-V-above, ownRungTwo-V-below}
-use Rattle.rungs.proofs.start.has_own_rung_two.Statement.{statement}
-use Rattle.rungs.proofs.start.has_own_rung_two.Tie as tie
+-- `recurrence::has_own_rung_two` meets its contract: each arm is the definition's clause.
+use Rattle.recurrence.specs.Recurrence.Open.{ownRungTwo-D, ownRungTwo-V-above, ownRungTwo-V-below}
+use Rattle.recurrence.proofs.has_own_rung_two.Statement.{statement}
+use Rattle.recurrence.proofs.has_own_rung_two.Tie as tie
 
 pub has-own-rung-two-spec : {M : Type 1} → statement M
 has-own-rung-two-spec =

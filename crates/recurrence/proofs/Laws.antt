@@ -1,0 +1,12 @@
+-- What the crates above may know of the recurrences beside the contracts; passed on are the cases of the definitions that `rungs` goes on from. Assumes
+-- nothing.
+use mathlib.Core.Path.{_≡_}
+use mathlib.Core.Bool.{Bool, false}
+use lib.Ieee.{Float}
+use Rattle.recurrence.specs.declared.Function.the-variants.{D}
+use Rattle.recurrence.specs.Recurrence.{ownRungTwo}
+pub use Rattle.recurrence.specs.Recurrence.Open.{ownRungTwo-D, ownRungTwo-V-above, ownRungTwo-V-below, nextRung-is, derivative-V-below}
+
+-- D has no rung 2 of its own
+pub no-own-two : (below : Bool) (f : Float) → ownRungTwo D below f ≡ false
+no-own-two below f = ownRungTwo-D below f

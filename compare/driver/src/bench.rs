@@ -111,11 +111,11 @@ mod tests {
 
     use super::{INPUTS, ROUNDS, best, ordinary_inputs, points};
     use crate::functions::Pair;
-    use crate::{CRATES, start_sums, tables};
+    use crate::{LAYERS, start_sums, tables};
 
     #[test]
     fn answers_at_the_inputs_are_finite_and_not_zero() {
-        let functions = CRATES.iter().flat_map(|(_, functions)| *functions);
+        let functions = LAYERS.iter().flat_map(|(_, functions)| *functions);
         for function in functions.filter(|function| function.own.is_some()) {
             let inputs = ordinary_inputs(function);
             assert_eq!(inputs.len(), INPUTS);

@@ -1,4 +1,4 @@
-//! The library crate `elementary`: the scope paper's elementary functions.
+//! The library crates `exponential`, `logarithm`, `trigonometric` and `roots`: the scope paper's elementary functions.
 
 mod own;
 #[cfg(test)]

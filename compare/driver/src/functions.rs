@@ -115,14 +115,14 @@ impl Function {
 
 #[cfg(test)]
 mod tests {
-    use crate::CRATES;
+    use crate::LAYERS;
 
     /// Enough for all edge inputs and many drawn ones.
     const COUNT: usize = 300_000;
 
     #[test]
     fn numbers_and_names() {
-        let functions = CRATES.iter().flat_map(|(_, functions)| *functions);
+        let functions = LAYERS.iter().flat_map(|(_, functions)| *functions);
         let functions: Vec<_> = functions.map(|f| (f.number, f.name)).collect();
         let names = "abs is_nan is_infinite to_i32 trunc fract min max signum alike \
                      exp exp2 exp_m1 ln pow sin cos square_root gamma2 dvsa dvla vvsa vvla";
@@ -132,7 +132,7 @@ mod tests {
 
     #[test]
     fn the_seed_fixes_the_inputs_and_the_count_is_kept() {
-        for function in CRATES.iter().flat_map(|(_, functions)| *functions) {
+        for function in LAYERS.iter().flat_map(|(_, functions)| *functions) {
             let bits = |seed| -> Vec<(u64, u64)> {
                 let inputs = function.inputs(COUNT, seed);
                 inputs.map(|(x, y)| (x.to_bits(), y.to_bits())).collect()

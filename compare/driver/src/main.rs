@@ -20,8 +20,8 @@ use comparing::Tally;
 use functions::Function;
 use store::Record;
 
-/// The library crates by name, with their functions.
-const CRATES: [(&str, &[Function]); 3] = [
+/// The layers of the library by name, with their functions.
+const LAYERS: [(&str, &[Function]); 3] = [
     ("floats", &floats::FUNCTIONS),
     ("elementary", &elementary::FUNCTIONS),
     ("start_sums", &start_sums::FUNCTIONS),
@@ -45,7 +45,7 @@ fn main() -> ExitCode {
         ["entries"] => entries::run(),
         ["store", folder] => store_all(Path::new(folder)),
         ["bench"] => {
-            let functions = CRATES.iter().flat_map(|(_, functions)| *functions);
+            let functions = LAYERS.iter().flat_map(|(_, functions)| *functions);
             bench::run(functions, &tables::CALLS);
             true
         }
@@ -59,11 +59,11 @@ fn usage() -> ExitCode {
     ExitCode::from(2)
 }
 
-/// Compares every library crate, the table calls and the ladder. Gives whether there was no
+/// Compares every layer, the table calls and the ladder. Gives whether there was no
 /// difference.
 fn compare(count: usize, seed: u64) -> bool {
     let mut right = true;
-    for (name, functions) in CRATES {
+    for (name, functions) in LAYERS {
         let mut tally = Tally::of_functions(functions.len());
         for function in functions {
             function.compare(&mut tally, count, seed);
@@ -83,7 +83,7 @@ fn compare(count: usize, seed: u64) -> bool {
 /// Writes every file of stored answers. Gives whether all were written.
 fn store_all(folder: &Path) -> bool {
     let mut right = true;
-    for (name, functions) in CRATES {
+    for (name, functions) in LAYERS {
         right &= store_file(folder, name, &store::all_records(functions));
     }
     right & store_file(folder, "tables", &tables::stored::all_records())

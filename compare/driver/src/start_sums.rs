@@ -1,4 +1,5 @@
-//! The library crate `start_sums`: the gamma function and the sums from which the tables start.
+//! The library crates `gamma`, `small_sums` and `start_sums`: the gamma function and the sums from which
+//! the tables start.
 
 mod own;
 mod terms;

@@ -118,7 +118,7 @@ mod tests {
     use crate::floats::FUNCTIONS;
     use crate::functions::Function;
     use crate::inputs::edges;
-    use crate::{CRATES, elementary, start_sums};
+    use crate::{LAYERS, elementary, start_sums};
 
     #[test]
     fn samples_are_spread() {
@@ -128,7 +128,7 @@ mod tests {
 
     #[test]
     fn each_function_has_its_records_with_all_edges() {
-        for function in CRATES.iter().flat_map(|(_, functions)| *functions) {
+        for function in LAYERS.iter().flat_map(|(_, functions)| *functions) {
             let mut records = records(function);
             assert_eq!(records.len(), RECORDS);
             records.sort_unstable();

@@ -1,7 +1,7 @@
 -- A ladder's state and reply in the form that C takes: function 1 is D and any other V, side 0 is from order 0 on, and a refusal has the count 0.
 use mathlib.Core.Option.{Option, some, none}
 use Prim.Native.Nat.{ℕ}
-use mathlib.Core.Bool.{Bool, not, cond}
+use mathlib.Core.Bool.{not, cond}
 use lib.Dec.{eqb}
 use Rattle.recurrence.specs.declared.Function.{Function}
 use Rattle.recurrence.specs.declared.Function.the-variants.{D, «V»}

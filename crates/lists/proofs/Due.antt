@@ -11,7 +11,8 @@ use Rattle.order.specs.Order.{topRung}
 use Rattle.columns.specs.Filled.{filled}
 use Rattle.columns.proofs.Filled.{filled-same}
 use Rattle.tables.specs.Tables.{valueOf, derivativeOf}
-use Rattle.machine.specs.Machine.{Request, Verdict, refuses, repeats, climbs, startsOver}
+use Rattle.machine.specs.Machine.{Request, Verdict, refuses, repeats, climbs, startsOver, written}
+use Rattle.machine.proofs.Laws.{repeats-count, climbs-count, starts-count}
 use Rattle.ladder.specs.declared.Ladder.{Ladder}
 use Rattle.ladder.specs.Ladder.{stateFor, refused, accepted, outcome}
 use Rattle.lists.specs.Demand3.{ask, Long, tabledValue, tabledDerivative, answered, due}
@@ -20,9 +21,9 @@ use Rattle.lists.proofs.Turns.{valuesLeft, derivativesLeft, givenFor, A
 
 module _ (table : Request → List Float) (long : Long table) (q : Request) where
   module _ (known : Known q) where
-    answered-is : (count : ℕ) → accepted (some count) (stateFor q) ≡ answered table q count
+    answered-is : (w : Verdict) (count : ℕ) → written w ≡ some count → accepted (some count) (stateFor q) ≡ answered table q w
     unfolding accepted answered
-    answered-is count = rw (table-pair q known table long, ← state-after q known table long)
+    answered-is w count e = rw (e, table-pair q known table long, ← state-after q known table long)
 
     values-are : (a at n : ℕ) (l : List Float) → a + n ≤ topRung (q .v) + 1
         → filled (valueOf (q .function) (q .v) (q .x)) a at n l ≡ filled (tabledValue table q) a at n l
@@ -38,10 +39,10 @@ module _ (table : Request → List Float) (long : Long table) (q : Request) wher
       → outcome (givenFor w s q) (valuesLeft w q l) (derivativesLeft w q d) ≡ due table s w (ask q l d)
   unfolding due refused
   due-is s l d fv fx (refuses number) a = refl
-  due-is s l d fv fx (repeats n) a = let known = known-request q (length l) (length d) fv fx (a .0) in rw (answered-is known 0)
+  due-is s l d fv fx (repeats n) a = let known = known-request q (length l) (length d) fv fx (a .0) in rw (answered-is known (repeats n) 0 (repeats-count n))
   due-is s l d fv fx (climbs m n) a =
       let known = known-request q (length l) (length d) fv fx (a .0) in
-      rw (answered-is known (n - m), values-are known (m + 1) (m + 1) (n - m) l (omega (arith, a .1, a .2)), derivatives-are known m m (n - m) d (omega (arith, a .1, a .2)))
+      rw (answered-is known (climbs m n) (n - m) (climbs-count m n), values-are known (m + 1) (m + 1) (n - m) l (omega (arith, a .1, a .2)), derivatives-are known m m (n - m) d (omega (arith, a .1, a .2)))
   due-is s l d fv fx (startsOver n) a =
       let known = known-request q (length l) (length d) fv fx (a .0) in
-      rw (answered-is known (n + 1), values-are known 0 0 (n + 1) l (omega (arith, a .1)), derivatives-are known 0 0 n d (omega (arith, a .1)))
+      rw (answered-is known (startsOver n) (n + 1) (starts-count n), values-are known 0 0 (n + 1) l (omega (arith, a .1)), derivatives-are known 0 0 n d (omega (arith, a .1)))

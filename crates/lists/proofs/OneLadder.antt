@@ -21,7 +21,7 @@ use Rattle.tables.specs.Tables.{pairOf, answer}
 use Rattle.tables.proofs.Values.{P7, four-values, four-answer}
 use Rattle.machine.specs.Machine.{Request, asks, repeats, climbs, startsOver, verdicts, empty}
 use Rattle.machine.specs.Held.{countsEmpty}
-use Rattle.machine.proofs.Laws.{no-rung-held}
+use Rattle.machine.proofs.Laws.{no-rung-held, repeats-count, climbs-count, starts-count}
 use Rattle.machine.proofs.Values.{P11-verdicts}
 use Rattle.ladder.specs.declared.Ladder.{Ladder}
 use Rattle.ladder.specs.declared.Reply.{Reply}
@@ -88,7 +88,7 @@ module _ (l d : List Float) (el : length l ≡ 6) (ed : length d ≡ 5) where
   pub shows : map shown (onOneLadder emptyState (two ∷ four ∷ four ∷ two ∷ []) l d)
       ≡ (some 4, some (neg f1, f0)) ∷ (some 2, some (decimal 3 0, f0)) ∷ (some 0, some (decimal 3 0, f0)) ∷ (some 4, some (neg f1, f0)) ∷ []
   unfolding onOneLadder shown dueAll due answered
-  shows = ap (map shown) outcomes ∙ rw (two-answer, answer-at-four)
+  shows = ap (map shown) outcomes ∙ rw (two-answer, answer-at-four, starts-count 3, climbs-count 3 5, repeats-count 5)
 
   -- after the last request slots 4 of both tables still hold what the second wrote: the last one writes values 0 to 3 and derivatives 0 to 2
   nth : (n : ℕ) → getD (first ∷ second ∷ third ∷ fourth ∷ []) n first ≡ getD (dueAll table emptyState (startsOver 3 ∷ climbs 3 5 ∷ repeats 5 ∷ startsOver 3 ∷ []) cs) n first
@@ -176,6 +176,9 @@ module _ (l d : List Float) (el : length l ≡ 6) (ed : length d ≡ 5) (s : Lad
         ap count (made-second ∙ nth l d el ed 1),
         ap count (made-third ∙ nth l d el ed 2),
         ap count (made-fourth ∙ nth l d el ed 3),
+        starts-count 3,
+        climbs-count 3 5,
+        repeats-count 5,
       )
 
   pub at-four : pairOf (r2 .answer) ≡ some (decimal 3 0, f0)

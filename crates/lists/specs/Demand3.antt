@@ -12,7 +12,7 @@ use Rattle.order.specs.Order.{tooLarge, below, fractionOf, topRung, num}
 use Rattle.columns.specs.Filled.{filled}
 use Rattle.columns.specs.Columns.{slot}
 use Rattle.tables.specs.Tables.{tableAfter, answer}
-use Rattle.machine.specs.Machine.{Request, Feed, asked, Machine, empty, holds, Verdict, refuses, repeats, climbs, startsOver, verdict, verdicts, after}
+use Rattle.machine.specs.Machine.{Request, Feed, asked, Machine, empty, holds, Verdict, refuses, repeats, climbs, startsOver, written, verdict, verdicts, after}
 use Rattle.machine.specs.Held.{countsEmpty, machineOf}
 use Rattle.ladder.specs.declared.Ladder.{Ladder}
 use Rattle.ladder.specs.Ladder.{heldIn, carriedValue, carriedDerivative, climbedTo, pairFrom, Given, Outcome, outcome, requested}
@@ -78,13 +78,13 @@ heldAfter table q = record {
   high = tabledValue table q (topRung (q .v));
 }
 
--- the table call's pair, with a written count
-unfoldable pub answered : (Request → List Float) → Request → ℕ → Given
-answered table q count = record {
+-- the table call's pair, with the machine's written count
+unfoldable pub answered : (Request → List Float) → Request → Verdict → Given
+answered table q w = record {
   state = heldAfter table q;
   refusal = 0;
   pair = answer (q .function) (q .v) (q .x) (length (table q));
-  written = some count;
+  written = written w;
 }
 
 -- ---- what is due to a call, where s is the state given and the machine has spoken: what is handed back and answered, and both tables, every slot
@@ -93,15 +93,15 @@ unfoldable pub due : (Request → List Float) → Ladder → Verdict → Call �
 -- its number alone, and state and tables as found
 due table s (refuses number) (ask q values derivatives) = outcome (record { state = s; refusal = number; pair = none; written = none }) values derivatives
 -- nothing is written
-due table s (repeats n) (ask q values derivatives) = outcome (answered table q 0) values derivatives
+due table s (repeats n) (ask q values derivatives) = outcome (answered table q (repeats n)) values derivatives
 -- values m + 1 to n and derivatives m to n − 1
 due table s (climbs m n) (ask q values derivatives) =
-    outcome (answered table q (n - m))
+    outcome (answered table q (climbs m n))
     (filled (tabledValue table q) (m + 1) (m + 1) (n - m) values)
     (filled (tabledDerivative table q) m m (n - m) derivatives)
 -- values 0 to n and derivatives 0 to n − 1
 due table s (startsOver n) (ask q values derivatives) =
-    outcome (answered table q (n + 1))
+    outcome (answered table q (startsOver n))
     (filled (tabledValue table q) 0 0 (n + 1) values)
     (filled (tabledDerivative table q) 0 0 n derivatives)
 

@@ -9,7 +9,7 @@ use borrow.Author.Tests.{eq-eqb}
 use lib.Dec.{ltb}
 use lib.Ieee.{Float, neg, isNan, ofBits}
 use Rattle.floats.specs.Operations.{bits, decimal, f0, f1}
-use Rattle.order.specs.Order.{f1000, tooLarge, below, shifted, fractionOf, topRung, num}
+use Rattle.order.specs.Order.{f1000, below, shifted, fractionOf, topRung, num}
 use Rattle.order.specs.Order.Examples.{Parts, parts}
 use Rattle.order.proofs.Laws.{order-zero, order-one, order-two, order-minus-one, order-1000, order-999½, order-below-one, order-tiny-below, order-four, large, side, part, top, columns}
 use Rattle.start_sums.specs.Constants.{rootTwoOverPi}

@@ -1,7 +1,6 @@
 -- `machine::cases::case_of` meets its contract: each return has the outcomes of the tests before it.
 use mathlib.Core.Path.{_≡_, sym, _∙_}
 use mathlib.Core.Bool.{true, false}
-use borrow.Author.Tests.{not-true, not-false}
 use Rattle.machine.specs.Machine.{bitsOf, sameRungs}
 use Rattle.machine.specs.Held.{countsEmpty, verdictOf}
 use Rattle.machine.proofs.Laws.{not-empty}

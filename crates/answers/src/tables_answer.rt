@@ -5,7 +5,7 @@ ghost use mathlib.Core.Bool.{cond};
 ghost use lib.Dec.{eqb};
 ghost use Rattle.floats.specs.Operations.{whole};
 ghost use Rattle.columns.specs.Columns.{slot};
-ghost use Rattle.tables.specs.Tables.{refusalOf, pairOf};
+ghost use Rattle.refusals.specs.Answer.{refusalOf, pairOf};
 ghost use Rattle.answers.specs.Tables.{junk, partOf, placeAfter, withJunk, tablesAnswer};
 use rungs::Function;
 

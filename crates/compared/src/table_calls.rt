@@ -3,7 +3,8 @@
 ghost use mathlib.Core.Path.{_≡_};
 ghost use lib.ListN.{length};
 ghost use Rattle.recurrence.specs.declared.Function.the-variants.{D, «V»};
-ghost use Rattle.tables.specs.Tables.{refusalOf, pairOf, refusal, tableAfter, answer};
+ghost use Rattle.refusals.specs.Answer.{refusalOf, pairOf};
+ghost use Rattle.tables.specs.Tables.{refusal, tableAfter, answer};
 ghost use Rattle.compared.specs.Answers.{pairOrNan};
 
 // Refusal 0: answered. On a refusal the two numbers are NaN.

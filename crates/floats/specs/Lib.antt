@@ -1,4 +1,5 @@
 pub mod Operations
 pub mod Functions
 pub mod Loops
+pub mod Polynomials
 pub mod Facts

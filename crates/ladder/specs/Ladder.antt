@@ -10,7 +10,8 @@ use Rattle.order.specs.Order.{below, fractionOf, topRung}
 use Rattle.recurrence.specs.declared.Function.the-variants.{D}
 use Rattle.recurrence.specs.Recurrence.{step, derivative}
 use Rattle.columns.specs.Filled.{filled}
-use Rattle.tables.specs.Tables.{refusalOf, pairOf, valueOf, derivativeOf}
+use Rattle.refusals.specs.Answer.{refusalOf, pairOf}
+use Rattle.tables.specs.Tables.{valueOf, derivativeOf}
 use Rattle.machine.specs.declared.Held.{Held}
 use Rattle.machine.specs.Machine.{Request, asked, Verdict, refuses, repeats, climbs, startsOver, written, verdict}
 use Rattle.machine.specs.Held.{machineOf}

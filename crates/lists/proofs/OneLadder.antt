@@ -17,7 +17,8 @@ use Rattle.order.proofs.Laws.{order-two, order-four, large, top, columns}
 use Rattle.columns.specs.Filled.{filled}
 use Rattle.columns.proofs.Filled.{filled-in, filled-out}
 use Rattle.recurrence.specs.declared.Function.the-variants.{D}
-use Rattle.tables.specs.Tables.{pairOf, answer}
+use Rattle.refusals.specs.Answer.{pairOf}
+use Rattle.tables.specs.Tables.{answer}
 use Rattle.tables.proofs.Values.{P7, four-values, four-answer}
 use Rattle.machine.specs.Machine.{Request, asks, repeats, climbs, startsOver, verdicts, empty}
 use Rattle.machine.specs.Held.{countsEmpty}

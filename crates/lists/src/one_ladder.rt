@@ -5,7 +5,7 @@ ghost use mathlib.Core.List.{[], _∷_};
 ghost use mathlib.Core.Option.{some};
 ghost use lib.Ieee.{Float};
 ghost use Rattle.floats.specs.Operations.{decimal, f0};
-ghost use Rattle.tables.specs.Tables.{pairOf};
+ghost use Rattle.refusals.specs.Answer.{pairOf};
 ghost use Rattle.ladder.specs.Ladder.{writtenOf};
 use crate::FourRequests;
 use ladder::Ladder;

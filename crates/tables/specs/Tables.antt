@@ -10,21 +10,9 @@ use lib.Ieee.{Float, isNan}
 use Rattle.order.specs.Order.{tooLarge, below, shifted, fractionOf, topRung, num}
 use Rattle.recurrence.specs.declared.Function.{Function}
 use Rattle.rungs.specs.Branches.{value, derivativeAt}
-use Rattle.tables.specs.declared.Answer.{Answer}
-use Rattle.tables.specs.declared.Answer.the-variants.{Pair, Refused}
 use Rattle.columns.specs.Filled.{filled}
 use Rattle.columns.specs.Columns.{valuesIn}
 pub mod Open
-
--- ---- an answer, in 01's words: a refusal number, which is 0 where there is none, or the pair of value and derivative
-
-unfoldable pub refusalOf : Answer → ℕ
-refusalOf (Pair value derivative) = 0
-refusalOf (Refused number) = number
-
-unfoldable pub pairOf : Answer → Option (Float × Float)
-pairOf (Pair value derivative) = some (value, derivative)
-pairOf (Refused number) = none
 
 -- ---- a request: a function, an order v, an argument x, and a table
 

@@ -5,16 +5,12 @@ mod requests;
 ghost use mathlib.Core.Path.{_≡_};
 ghost use lib.ListN.{length};
 ghost use Rattle.recurrence.specs.declared.Function.the-variants.{D, «V»};
-ghost use Rattle.tables.specs.Tables.{refusalOf, pairOf, refusal, tableAfter, answer};
+ghost use Rattle.refusals.specs.Answer.{refusalOf, pairOf};
+ghost use Rattle.tables.specs.Tables.{refusal, tableAfter, answer};
+pub use refusals::Answer;
 pub use requests::refusal_by;
 pub use requests::table;
 use rungs::Function;
-
-// What a request answers: the value and the derivative, or the number of its refusal.
-pub enum Answer {
-    Pair(f64, f64),
-    Refused(u8),
-}
 
 // The table of D at order v and argument x.
 pub fn d_table(v: f64, x: f64, t: &mut [f64]) -> Answer

@@ -5,10 +5,11 @@ ghost use mathlib.Core.Option.{some};
 ghost use Prim.Native.Nat.{_+_, _-_, _≤_};
 ghost use lib.ListN.{length};
 ghost use Rattle.columns.specs.Columns.{slot};
-ghost use Rattle.tables.specs.Tables.{refusalOf, pairOf, refusalBy, refusal, tableAfter, answer};
-use crate::Answer;
+ghost use Rattle.refusals.specs.Answer.{refusalOf, pairOf};
+ghost use Rattle.tables.specs.Tables.{refusalBy, refusal, tableAfter, answer};
 use floats::is_nan;
 use order::Rung;
+use refusals::Answer;
 use rungs::Function;
 
 // The number of a request's refusal, 0 where there is none; `short` says whether a table is too short for it.

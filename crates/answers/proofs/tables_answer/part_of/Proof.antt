@@ -1,7 +1,7 @@
 -- `answers::tables_answer::part_of` meets its contract: each arm is the definitions' clause.
 use borrow.Author.Tests.{eq-eqb, ne-eqb}
 use lib.Ieee.{div, ofBits, ofInt}
-use Rattle.tables.specs.Tables.{refusalOf, pairOf}
+use Rattle.refusals.specs.Answer.{refusalOf, pairOf}
 use Rattle.answers.specs.Tables.{partOf}
 use Rattle.answers.proofs.tables_answer.part_of.Statement.{statement}
 use Rattle.answers.proofs.tables_answer.part_of.Tie as tie

@@ -1,7 +1,7 @@
 -- `compared::table_calls::flat` meets its contract: each arm is the definitions' clause.
 use borrow.Author.Needs.{needs}
 use lib.Ieee.{div, ofBits}
-use Rattle.tables.specs.Tables.{refusalOf, pairOf}
+use Rattle.refusals.specs.Answer.{refusalOf, pairOf}
 use Rattle.compared.specs.Answers.{pairOrNan}
 use Rattle.compared.proofs.table_calls.flat.Statement.{statement}
 use Rattle.compared.proofs.table_calls.flat.Tie as tie

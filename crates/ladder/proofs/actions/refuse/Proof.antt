@@ -1,6 +1,6 @@
 -- `ladder::actions::refuse` meets its contract: the parts of a refusal's reply.
 use mathlib.Core.Path.{refl}
-use Rattle.tables.specs.Tables.{refusalOf, pairOf}
+use Rattle.refusals.specs.Answer.{refusalOf, pairOf}
 use Rattle.ladder.specs.Ladder.{writtenOf, givenBy, refused}
 use Rattle.ladder.proofs.actions.refuse.Statement.{statement}
 use Rattle.ladder.proofs.actions.refuse.Tie as tie

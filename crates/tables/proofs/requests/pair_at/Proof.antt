@@ -1,7 +1,7 @@
 -- `tables::requests::pair_at` meets its contract: what is read is what the definition names.
 use mathlib.Core.Path.{refl}
 use native.Mathlib.Omega.{arith}
-use Rattle.tables.specs.Tables.{refusalOf, pairOf}
+use Rattle.refusals.specs.Answer.{refusalOf, pairOf}
 use Rattle.columns.specs.Columns.{slot}
 use Rattle.tables.proofs.requests.pair_at.Statement.{statement}
 use Rattle.tables.proofs.requests.pair_at.Tie as tie

@@ -10,7 +10,8 @@ use Rattle.order.specs.Order.{below, shifted, fractionOf, topRung, num}
 use Rattle.order.specs.Facts.{Split}
 use Rattle.order.proofs.Facts.{split-facts}
 use Rattle.order.proofs.Laws.{num-least}
-use Rattle.tables.specs.Tables.{refusalOf, pairOf, refusal}
+use Rattle.refusals.specs.Answer.{refusalOf, pairOf}
+use Rattle.tables.specs.Tables.{refusal}
 use Rattle.tables.proofs.Calls.{refusal-short, accepted, left-as-found, settled}
 use Rattle.tables.proofs.requests.table.Statement.{statement}
 use Rattle.tables.proofs.requests.table.Tie as tie

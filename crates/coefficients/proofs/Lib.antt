@@ -1,0 +1,5 @@
+pub mod Lowest
+pub mod Pairwise
+pub mod Rule
+pub mod Horner
+pub mod Rows

@@ -1,0 +1,5 @@
+pub mod Fractions
+pub mod Dlmf
+pub mod Table
+pub mod Nearest
+pub mod Polynomials

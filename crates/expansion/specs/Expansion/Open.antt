@@ -1,0 +1,48 @@
+-- What the definitions are, case by case. Only this crate's proofs cite these laws.
+use mathlib.Core.Path.{_≡_, refl}
+use mathlib.Core.Bool.{true, false}
+use mathlib.Core.Option.{some, none}
+use Prim.Native.Nat.{ℕ}
+use borrow.Author.Tests.{ne-eqb}
+use lib.Ieee.{Float, isNan, lt, le, neg}
+use Rattle.floats.specs.Functions.{infinite}
+use Rattle.expansion.specs.Constants.{beyond, f20}
+use Rattle.expansion.specs.Expansion.{parameter, clamped, mantissasBy, mantissas, refusal, pairBy, answer}
+
+module _ (v x : Float) where
+  pub mantissas-are : mantissas v x ≡ mantissasBy (parameter v) (clamped x)
+  unfolding mantissas
+  mantissas-are = refl
+
+  -- the refusal's number, test by test
+  pub order-nan : isNan v ≡ true → refusal v x ≡ 1
+  unfolding refusal
+  order-nan a = rw (a)
+
+  pub argument-nan : isNan v ≡ false → isNan x ≡ true → refusal v x ≡ 1
+  unfolding refusal
+  argument-nan a b = rw (a, b)
+
+  pub order-below : isNan v ≡ false → isNan x ≡ false → lt (neg beyond) v ≡ false → refusal v x ≡ 4
+  unfolding refusal
+  order-below a b c = rw (a, b, c)
+
+  pub order-above : isNan v ≡ false → isNan x ≡ false → lt (neg beyond) v ≡ true → le v (neg f20) ≡ false → refusal v x ≡ 4
+  unfolding refusal
+  order-above a b c d = rw (a, b, c, d)
+
+  pub argument-infinite : isNan v ≡ false → isNan x ≡ false → lt (neg beyond) v ≡ true → le v (neg f20) ≡ true → infinite x ≡ true → refusal v x ≡ 5
+  unfolding refusal
+  argument-infinite a b c d e = rw (a, b, c, d, e)
+
+  pub accepted : isNan v ≡ false → isNan x ≡ false → lt (neg beyond) v ≡ true → le v (neg f20) ≡ true → infinite x ≡ false → refusal v x ≡ 0
+  unfolding refusal
+  accepted a b c d e = rw (a, b, c, d, e)
+
+  pub no-answer : (number : ℕ) → (number ≡ 0 → ⊥) → number ≡ refusal v x → answer v x ≡ none
+  unfolding answer
+  no-answer number h i = rw (← i, ne-eqb number 0 h)
+
+  pub an-answer : refusal v x ≡ 0 → answer v x ≡ some (pairBy (mantissas v x))
+  unfolding answer
+  an-answer h = rw (h)

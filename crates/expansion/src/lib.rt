@@ -1,0 +1,120 @@
+// D and its derivative at large negative orders, by the uniform expansions in elementary functions (DLMF 12.10.25 and 12.10.29), with a = -v - 1/2.
+
+ghost use mathlib.Core.Path.{_≡_};
+ghost use Rattle.refusals.specs.Answer.{refusalOf, pairOf};
+ghost use Rattle.expansion.specs.Expansion.{clamped, logarithmOf, exponentOf, weight, gBar, mantissas, refusal, answer};
+use coefficients::uv_sums;
+use floats::is_infinite;
+use floats::is_nan;
+use logarithm::ln;
+use refusals::Answer;
+use roots::square_root;
+
+// D and its derivative as mantissas with one exponent: value * e^exponent and derivative * e^exponent.
+pub struct Mantissas {
+    pub value: f64,
+    pub derivative: f64,
+    pub exponent: f64,
+}
+
+// x within -1e9 and 1e9: far beyond, the answers underflow or overflow, and so would the polynomials.
+fn clamp(x: f64) -> f64
+    ensures { λ r. ⌜ r ≡ clamped x ⌝ }
+{
+    if x < -1e9 {
+        return -1e9;
+    }
+    if x > 1e9 {
+        return 1e9;
+    }
+    x
+}
+
+// ln(x/2 + s), without cancellation below 0.
+fn logarithm_of(a: f64, x: f64, s: f64) -> f64
+    ensures { λ r. ⌜ r ≡ logarithmOf a x s ⌝ }
+{
+    if x >= 0.0 {
+        return ln(0.5 * x + s);
+    }
+    ln(a) - ln(s - 0.5 * x)
+}
+
+// The exponent of both mantissas.
+fn exponent_of(a: f64, x: f64, s: f64) -> f64
+    ensures { λ r. ⌜ r ≡ exponentOf a x s ⌝ }
+{
+    -0.5 * x * s - a * logarithm_of(a, x, s) + 0.5 * a
+}
+
+// What the polynomials' sums are in powers of.
+fn weight(a: f64, t: f64) -> f64
+    ensures { λ r. ⌜ r ≡ weight a t ⌝ }
+{
+    let q = t * t + 1.0;
+    1.0 / (q * square_root(q) * (2.0 * a))
+}
+
+// The factor gbar (DLMF 12.10.28), up to what stands in the exponent.
+fn g_bar(a: f64) -> f64
+    ensures { λ r. ⌜ r ≡ gBar a ⌝ }
+{
+    1.0 + 0.5 * exponential::exp_m1(-gamma_ratio::ln_gamma_ratio(a))
+}
+
+// The expansion, for every f64: orders of -20 and below are those that it is made for.
+pub fn pbdv_elementary(v: f64, x: f64) -> Mantissas
+    ensures value { λ r. ⌜ r .value ≡ mantissas v x .0 ⌝ }
+    ensures derivative { λ r. ⌜ r .derivative ≡ mantissas v x .1 ⌝ }
+    ensures exponent { λ r. ⌜ r .exponent ≡ mantissas v x .2 ⌝ }
+{
+    let a = -v - 0.5;
+    let y = clamp(x);
+    let s = square_root(0.25 * y * y + a);
+    let t = 0.5 * y / square_root(a);
+    let sums = uv_sums(t, weight(a, t));
+    let g = g_bar(a);
+    let value = g * sums.u / square_root(2.0 * s);
+    let derivative = -g * sums.v * square_root(0.5 * s);
+    Mantissas {
+        value: value,
+        derivative: derivative,
+        exponent: exponent_of(a, y, s),
+    }
+}
+
+// The number of the refusal, 0 where there is none: a NaN, an order out of range, an infinite argument.
+fn refusal(v: f64, x: f64) -> u8
+    ensures { λ r. ⌜ r ≡ refusal v x ⌝ }
+{
+    if is_nan(v) {
+        return 1;
+    }
+    if is_nan(x) {
+        return 1;
+    }
+    if !(v > -2147483648.0) {
+        return 4;
+    }
+    if !(v <= -20.0) {
+        return 4;
+    }
+    if is_infinite(x) {
+        return 5;
+    }
+    0
+}
+
+// The request: D of order v and its derivative at x.
+pub fn d_expansion(v: f64, x: f64) -> Answer
+    ensures number { λ r. ⌜ refusalOf r ≡ refusal v x ⌝ }
+    ensures pair { λ r. ⌜ pairOf r ≡ answer v x ⌝ }
+{
+    let number = refusal(v, x);
+    if number != 0 {
+        return Answer::Refused(number);
+    }
+    let m = pbdv_elementary(v, x);
+    let d = mul_exp::mul_exp_both(m.value, m.derivative, m.exponent);
+    Answer::Pair(d.first, d.second)
+}

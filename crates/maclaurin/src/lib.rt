@@ -1,0 +1,134 @@
+// w(x) and w'(x) by the Maclaurin series of w'' = (x^2/4 + a) w (DLMF 12.2.2), with w(0) and w'(0) as the mantissas c0 and c1 with the exponent e.
+
+ghost use mathlib.Core.Path.{_≡_};
+ghost use Rattle.refusals.specs.Answer.{refusalOf, pairOf};
+ghost use Rattle.maclaurin.specs.Maclaurin.{series, shortForm, pbMaclaurin, anyOf, refusal, answer};
+use floats::abs;
+use floats::is_infinite;
+use floats::is_nan;
+use mul_exp::Both;
+use mul_exp::mul_exp_both;
+use refusals::Answer;
+
+// The source's constants.
+const LN_2: f64 = 0.6931471805599453;
+
+// 2^600.
+const SCALE: f64 =
+    4149515568880992958512407863691161151012446232242436899995657329690652811412908146399707048947103794288197886611300789182395151075411775307886874834113963687061181803401509523685376.0;
+
+// The sums of the series: d of w(x), dp of w'(x).
+struct Sums {
+    d: f64,
+    dp: f64,
+}
+
+// The series, of at most 60 steps. b0 to b3 are the coefficients of x^(n-2) to x^(n+1), xn is x^(n+1), and prev the size of the last term of dp.
+fn series(a: f64, x: f64, c0: f64, c1: f64) -> Sums
+    ensures d { λ r. ⌜ r .d ≡ series a x c0 c1 .4 ⌝ }
+    ensures dp { λ r. ⌜ r .dp ≡ series a x c0 c1 .5 ⌝ }
+{
+    let size = abs(x);
+    let mut b0 = 0.0;
+    let mut b1 = 0.0;
+    let mut b2 = c0;
+    let mut b3 = c1;
+    let mut d = c0 + c1 * x;
+    let mut dp = c1;
+    let mut xn = x;
+    let mut prev = 1.0 / 0.0;
+    for n in 0u32..60 {
+        let nf = n as f64;
+        let cn2 = (a * b2 + 0.25 * b0) / ((nf + 1.0) * (nf + 2.0));
+        b0 = b1;
+        b1 = b2;
+        b2 = b3;
+        b3 = cn2;
+        let term = (nf + 2.0) * cn2 * xn;
+        dp = dp + term;
+        xn = xn * x;
+        d = d + cn2 * xn;
+        let last = abs(term);
+        if floats::max(last, prev) <= 1e-17 * floats::min(abs(dp), abs(d) / size) {
+            return Sums { d: d, dp: dp };
+        }
+        prev = last;
+    }
+    Sums { d: d, dp: dp }
+}
+
+// The linear terms alone, scaled by 2^600 so that x * 2^600 is no subnormal.
+fn short_form(a: f64, x: f64, c0: f64, c1: f64, e: f64) -> Both
+    ensures first { λ r. ⌜ r .first ≡ shortForm a x c0 c1 e .0 ⌝ }
+    ensures second { λ r. ⌜ r .second ≡ shortForm a x c0 c1 e .1 ⌝ }
+{
+    let xk = x * SCALE;
+    mul_exp_both(
+        c0 * SCALE + c1 * xk,
+        c1 * SCALE + a * c0 * xk,
+        e - 600.0 * LN_2,
+    )
+}
+
+// w(x) and w'(x), for every f64.
+pub fn pb_maclaurin(a: f64, x: f64, c0: f64, c1: f64, e: f64) -> Both
+    ensures first { λ r. ⌜ r .first ≡ pbMaclaurin a x c0 c1 e .0 ⌝ }
+    ensures second { λ r. ⌜ r .second ≡ pbMaclaurin a x c0 c1 e .1 ⌝ }
+{
+    if abs(x) < 1e-150 {
+        return short_form(a, x, c0, c1, e);
+    }
+    let s = series(a, x, c0, c1);
+    mul_exp_both(s.d, s.dp, e)
+}
+
+// Whether one of five is true.
+fn any_of(a: bool, b: bool, c: bool, d: bool, e: bool) -> bool
+    ensures { λ r. ⌜ r ≡ anyOf a b c d e ⌝ }
+{
+    if a {
+        return true;
+    }
+    if b {
+        return true;
+    }
+    if c {
+        return true;
+    }
+    if d {
+        return true;
+    }
+    e
+}
+
+// The number of the refusal, 0 where there is none: 1 where an input is NaN, else 5 where one is infinite.
+fn refusal(a: f64, x: f64, c0: f64, c1: f64, e: f64) -> u8
+    ensures { λ r. ⌜ r ≡ refusal a x c0 c1 e ⌝ }
+{
+    if any_of(is_nan(a), is_nan(x), is_nan(c0), is_nan(c1), is_nan(e)) {
+        return 1;
+    }
+    if any_of(
+        is_infinite(a),
+        is_infinite(x),
+        is_infinite(c0),
+        is_infinite(c1),
+        is_infinite(e),
+    ) {
+        return 5;
+    }
+    0
+}
+
+// The request.
+pub fn maclaurin(a: f64, x: f64, c0: f64, c1: f64, e: f64) -> Answer
+    ensures number { λ r. ⌜ refusalOf r ≡ refusal a x c0 c1 e ⌝ }
+    ensures pair { λ r. ⌜ pairOf r ≡ answer a x c0 c1 e ⌝ }
+{
+    let number = refusal(a, x, c0, c1, e);
+    if number != 0 {
+        return Answer::Refused(number);
+    }
+    let w = pb_maclaurin(a, x, c0, c1, e);
+    Answer::Pair(w.first, w.second)
+}

@@ -1,13 +1,27 @@
 -- What the definitions are, case by case. Only this crate's proofs cite these laws.
 use mathlib.Core.Path.{_≡_, refl}
-use mathlib.Core.Bool.{true, false}
+use mathlib.Core.Bool.{Bool, true, false, not, _&&_, _||_, cond}
 use mathlib.Core.Option.{some, none}
 use Prim.Native.Nat.{ℕ}
+use native.Mathlib.Omega.{arith}
 use borrow.Author.Tests.{ne-eqb}
 use lib.Ieee.{Float, isNan, lt, le, neg}
 use Rattle.floats.specs.Functions.{infinite}
 use Rattle.expansion.specs.Constants.{beyond, f20}
 use Rattle.expansion.specs.Expansion.{parameter, clamped, mantissasBy, mantissas, refusal, pairBy, answer}
+
+one-not-zero : _≡_ {A = ℕ} 1 0 → ⊥
+one-not-zero h = omega arith
+
+four-not-zero : _≡_ {A = ℕ} 4 0 → ⊥
+four-not-zero h = omega arith
+
+both-pass : (n a b i : Bool) → _≡_ {A = ℕ} (cond n 1 (cond (not (a && b)) 4 (cond i 5 0))) 0 → (a ≡ true) × (b ≡ true)
+both-pass n true true i h = (refl, refl)
+both-pass true true false i h = absurd (one-not-zero h)
+both-pass false true false i h = absurd (four-not-zero h)
+both-pass true false b i h = absurd (one-not-zero h)
+both-pass false false b i h = absurd (four-not-zero h)
 
 module _ (v x : Float) where
   pub mantissas-are : mantissas v x ≡ mantissasBy (parameter v) (clamped x)
@@ -46,3 +60,7 @@ module _ (v x : Float) where
   pub an-answer : refusal v x ≡ 0 → answer v x ≡ some (pairBy (mantissas v x))
   unfolding answer
   an-answer h = rw (h)
+
+  pub in-range : refusal v x ≡ 0 → (lt (neg beyond) v ≡ true) × (le v (neg f20) ≡ true)
+  unfolding refusal
+  in-range h = both-pass (isNan v || isNan x) (lt (neg beyond) v) (le v (neg f20)) (infinite x) h

@@ -1,6 +1,7 @@
 pub mod RootWhole
 pub mod RootRounding
 pub mod RootDigits
+pub mod RootCertificate
 pub mod RootNormal
 pub mod RootScale
 pub mod RootPatterns

@@ -120,12 +120,15 @@ root-bits n b r =
     ∙ ap (λ (k : ℕ). odd 53 false k c 1074) (omega arith)
     ∙ sym (r .root)
 
+pub no-nan-pattern : (b : ℕ) → b ≤ 2047 * 2 ^ 52 → T (not (nanBits binary64 b))
+no-nan-pattern b h = rw (nanBits-above binary64 b, le-ltb (2047 * 2 ^ 52) (b % 2 ^ 63) (omega (arith, mod-le b (2 ^ 63)))) tt
+
 pub root-no-nan : (n b : ℕ) → RootPattern n b → T (not (nanBits binary64 b))
 root-no-nan n b r =
     let h = r .most in
     let o = r .room in
     let g = r .bits in
-    rw (nanBits-above binary64 b, le-ltb (2047 * 2 ^ 52) (b % 2 ^ 63) (omega (arith, mod-le b (2 ^ 63)))) tt
+    no-nan-pattern b (omega arith)
 
 -- ---- by the tests of the program
 
@@ -142,14 +145,15 @@ module _ (x : Float) (held : T (fits binary64 x)) where
   pub root-below-zero : 2 ^ 63 < toBits binary64 x → nan ≡ squareRoot x
   root-below-zero l = sym (negative-pattern (toBits binary64 x) l (toBits-lt binary64 x held)) ∙ same
 
-  pub root-of-minus-zero : toBits binary64 x ≡ 2 ^ 63 → x ≡ squareRoot x
-  root-of-minus-zero h = kept (2 ^ 63) h minus-zero-pattern
-
   pub root-of-zero : toBits binary64 x ≡ 0 → x ≡ squareRoot x
   root-of-zero h = kept 0 h zero-pattern
 
-  pub root-of-infinity : 2047 * 2 ^ 52 ≤ toBits binary64 x → toBits binary64 x < 2 ^ 63 → x ≡ squareRoot x
-  root-of-infinity l h = kept (toBits binary64 x) refl (highest-pattern (toBits binary64 x) l h)
+  -- infinity and the zero below 0
+  pub root-of-itself : 2047 * 2 ^ 52 ≤ toBits binary64 x → toBits binary64 x ≤ 2 ^ 63 → x ≡ squareRoot x
+  root-of-itself l h = elim (eq-or-lt-of-le h) [
+    | inl e ↦ kept (2 ^ 63) e minus-zero-pattern
+    | inr k ↦ kept (toBits binary64 x) refl (highest-pattern (toBits binary64 x) l k)
+  ]
 
   pub root-above-zero : (b : ℕ) → 0 < toBits binary64 x → toBits binary64 x < 2047 * 2 ^ 52 → RootPattern (magnitude (toBits binary64 x)) b → bits b ≡ squareRoot x
   root-above-zero b l h r = root-bits (magnitude (toBits binary64 x)) b r ∙ sym (positive-pattern (toBits binary64 x) l h) ∙ same

@@ -3,8 +3,9 @@
 use mathlib.Core.Path.{_≡_, refl, sym, _∙_, ap, subst}
 use mathlib.Core.Bool.{not}
 use mathlib.Core.Logic.{inl, inr}
-use Prim.Native.Nat.{ℕ, suc, _+_, _-_, _*_, _^_, _≤_, _<_, compare, Ordering, Ordering·lt, Ordering·eq, Ordering·gt}
+use Prim.Native.Nat.{ℕ, zero, suc, _+_, _-_, _*_, _^_, _≤_, _<_, compare, Ordering, Ordering·lt, Ordering·eq, Ordering·gt}
 use native.Mathlib.Nat.{lt-of-not-le, mul-div-cancel, mul-assoc, mul-le-mul, mul-lt-mul-of-pos-right, one-le-pow}
+use native.Mathlib.Numerals.{add-one}
 use native.Mathlib.Omega.{arith}
 use lib.Dec.{T, isLe, isEq, lit<, leb→le, nleb→lt, eqb→eq}
 use lib.Ieee.{nearest}
@@ -90,19 +91,29 @@ module _ (x : ℕ) (large : 2 ^ 104 ≤ x) (small : x ≤ 2 ^ 106 - 2 ^ 53) wher
             rw (rounds-down x q c r h) (record { least = a; most = root-most q r; low = omega arith; high = omega arith; edge = λ e. r .least })
       ]
 
--- ---- the root that the digits give, rounded by its remainder
+-- ---- the whole number nearest to the root of radicand * 2 ^ 52
 
-module _ (radicand root remainder : ℕ) (large : 2 ^ 52 ≤ radicand) (small : radicand < 2 ^ 54 - 1) (w : WholeRoot radicand root remainder) where
-  is-root : IsRoot (radicand * 2 ^ 52) root
-  is-root = record { least = omega arith; next = omega arith }
-
+module _ (radicand root : ℕ) (large : 2 ^ 52 ≤ radicand) (small : radicand < 2 ^ 54 - 1) (w : IsRoot (radicand * 2 ^ 52) root) where
   nearest-whole : (r : ℕ) → ((c : ℕ) → roundedRoot (radicand * 2 ^ 52 * 4 ^ c) c ≡ r) → NearestWhole radicand r
   nearest-whole r e =
       let k = subst (λ (q : ℕ). Rounded (radicand * 2 ^ 52) q) (e 0) (rounded (radicand * 2 ^ 52) (omega arith) (omega arith) 0) in
       record { value = λ c. sym (e c); least = k .least; most = k .most }
 
-  pub nearest-above : root < remainder → NearestWhole radicand (root + 1)
-  nearest-above h = nearest-whole (root + 1) (λ c. rounds-up (radicand * 2 ^ 52) root c is-root (omega arith) ∙ omega arith)
+  pub nearest-above : root * root + root < radicand * 2 ^ 52 → NearestWhole radicand (root + 1)
+  nearest-above h = nearest-whole (root + 1) (λ c. rounds-up (radicand * 2 ^ 52) root c w h ∙ sym (add-one root))
 
-  pub nearest-below : remainder ≤ root → NearestWhole radicand root
-  nearest-below h = nearest-whole root (λ c. rounds-down (radicand * 2 ^ 52) root c is-root (omega arith))
+  pub nearest-below : radicand * 2 ^ 52 ≤ root * root + root → NearestWhole radicand root
+  nearest-below h = nearest-whole root (λ c. rounds-down (radicand * 2 ^ 52) root c w h)
+
+-- r is nearest where the number lies between the squares of r - 1/2 and r + 1/2
+pub nearest-between : (radicand r : ℕ) → 2 ^ 52 ≤ radicand → radicand < 2 ^ 54 - 1 → r * r < radicand * 2 ^ 52 + r → radicand * 2 ^ 52 ≤ r * r + r
+    → NearestWhole radicand r
+nearest-between radicand zero l h a b = absurd (omega arith)
+nearest-between radicand (suc p) l h a b = elim (lt-or-ge (radicand * 2 ^ 52) (suc p * suc p)) [
+  | inl k ↦ rw add-one at (nearest-above radicand p l h (record { least = omega arith; next = omega arith }) (omega arith))
+  | inr k ↦ nearest-below radicand (suc p) l h (record { least = k; next = omega arith }) b
+]
+
+-- the digits' root and remainder
+pub is-root : (radicand root remainder : ℕ) → WholeRoot radicand root remainder → IsRoot (radicand * 2 ^ 52) root
+is-root radicand root remainder w = record { least = omega arith; next = omega arith }

@@ -4,7 +4,7 @@ use mathlib.Core.Path.{_≡_, refl, sym, _∙_, ap, subst}
 use mathlib.Core.Bool.{false}
 use Prim.Native.Nat.{ℕ, zero, suc, _+_, _-_, _*_, _/_, _%_, _^_, _≤_, _<_}
 use native.Mathlib.Nat.{lt-of-not-le, lt-of-lt-of-le, lt-irrefl, le-trans, le-of-eq}
-use native.Mathlib.Nat.{one-mul, mul-assoc, mul-right-comm, mul-mul-mul-comm, mul-le-mul-right, mul-lt-mul-of-pos-right, pow-succ'}
+use native.Mathlib.Nat.{one-mul, mul-one, mul-assoc, mul-right-comm, mul-mul-mul-comm, mul-le-mul-right, mul-lt-mul-of-pos-right, pow-succ'}
 use native.Mathlib.Omega.{arith}
 use lib.Dec.{lit≤}
 use lib.Pow.{pow-add, pow-mono}
@@ -77,7 +77,7 @@ module _ (n significand exponent : ℕ) (m : Normal n significand exponent) wher
       ∙ mul-assoc n (2 ^ 53) (2 ^ 969))
       ∙ mul-assoc n (2 ^ 1022) (2 ^ 52))
 
-  pub even-scale : exponent % 2 ≡ 0 → Scale n (significand * 2) ((exponent + 969) / 2)
+  even-scale : exponent % 2 ≡ 0 → Scale n (significand * 2) ((exponent + 969) / 2)
   even-scale h = let c = (exponent + 969) / 2 in record {
     value = scaled (significand * 2) c
         (mul-assoc significand 2 (4 ^ c) ∙ ap (λ (k : ℕ). significand * k) (shifted 1 c) ∙ ap (λ (k : ℕ). significand * 2 ^ k) (odd-sum h));
@@ -89,7 +89,7 @@ module _ (n significand exponent : ℕ) (m : Normal n significand exponent) wher
       odd-sum : exponent % 2 ≡ 0 → 1 + ((exponent + 969) / 2 + (exponent + 969) / 2) ≡ exponent + 969
       odd-sum h = omega arith
 
-  pub odd-scale : ¬ (exponent % 2 ≡ 0) → Scale n significand ((exponent + 969) / 2)
+  odd-scale : ¬ (exponent % 2 ≡ 0) → Scale n significand ((exponent + 969) / 2)
   odd-scale h = let c = (exponent + 969) / 2 in record {
     value = scaled significand c
         (ap (λ (k : ℕ). significand * k) (sym (one-mul (4 ^ c)) ∙ shifted 0 c) ∙ ap (λ (k : ℕ). significand * 2 ^ k) (even-sum h));
@@ -100,3 +100,17 @@ module _ (n significand exponent : ℕ) (m : Normal n significand exponent) wher
     where
       even-sum : ¬ (exponent % 2 ≡ 0) → 0 + ((exponent + 969) / 2 + (exponent + 969) / 2) ≡ exponent + 969
       even-sum h = omega arith
+
+  pub parity-scale : Scale n (significand * (2 - exponent % 2)) ((exponent + 969) / 2)
+  parity-scale = go (exponent % 2) refl
+    where
+      go : (p : ℕ) → exponent % 2 ≡ p → Scale n (significand * (2 - p)) ((exponent + 969) / 2)
+      go zero e = even-scale e
+      go (suc zero) e = rw mul-one (odd-scale (λ z. omega arith))
+      go (suc (suc p)) e = absurd (omega arith)
+
+pub radicand-bounds : (significand parity : ℕ) → 2 ^ 52 ≤ significand → significand < 2 ^ 53 → parity < 2
+    → (2 ^ 52 ≤ significand * (2 - parity)) × (significand * (2 - parity) < 2 ^ 54 - 1)
+radicand-bounds significand zero l h p = (omega arith, omega arith)
+radicand-bounds significand (suc zero) l h p = (omega arith, omega arith)
+radicand-bounds significand (suc (suc parity)) l h p = absurd (omega arith)

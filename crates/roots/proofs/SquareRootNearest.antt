@@ -2,7 +2,6 @@
 -- there the root is rounded, and its middle with each other float is compared with it. Assumes nothing.
 use mathlib.Core.Path.{_≡_, refl, sym, _∙_, ap, subst}
 use mathlib.Core.Bool.{Bool, true, false}
-use mathlib.Core.Logic.{inl, inr}
 use Prim.Native.Nat.{ℕ, zero, suc, _+_, _-_, _*_, _/_, _%_, _^_, _≤_, _<_}
 use native.Mathlib.Nat.{le-refl, le-trans, le-of-eq, le-of-lt, lt-of-not-le, lt-of-lt-of-le, lt-of-le-of-lt, lt-irrefl}
 use native.Mathlib.Nat.{mul-assoc, mul-le-mul, mul-le-mul-right, mul-lt-mul-of-pos-right, mul-pos, zero-mul, eq-of-mul-eq-mul-right}
@@ -13,14 +12,13 @@ use lib.Ieee.{Float, binary64, size, fits}
 use lib.Ieee.Digits.{size-lt, size-reaches, size-le}
 use lib.Ieee.Exact.{HasValue, odd-sign}
 use lib.Ieee.Fits.{odd-fits}
-use Rattle.floats.proofs.Tests.{lt-or-ge}
 use Rattle.floats.proofs.Values.{value-finite, cross}
 use Rattle.floats.proofs.Rounding.{on-grid}
 use Rattle.roots.specs.SquareRoot.{squareRoot, roundedRoot, rootOfUnits}
 use Rattle.roots.specs.NearestRoot.{NearestRoot}
 use Rattle.roots.specs.Steps.{Normal}
 use Rattle.roots.proofs.RootRounding.{Rounded, rounded}
-use Rattle.roots.proofs.RootScale.{Scale, even-scale, odd-scale, root-at-scale}
+use Rattle.roots.proofs.RootScale.{Scale, parity-scale, root-at-scale}
 use Rattle.roots.proofs.RootPatterns.{root-of-value}
 use Rattle.roots.proofs.SquareRootMiddles.{middle-above, middle-below}
 
@@ -142,10 +140,7 @@ scale : (n : ℕ) → 0 < n → Digits n → (radicand : ℕ) × (c : ℕ) × Sc
 scale n p f = go (normal-of n p f .0) (normal-of n p f .1) (normal-of n p f .2)
   where
     go : (m h : ℕ) → Normal n m h → (radicand : ℕ) × (c : ℕ) × Scale n radicand c
-    go m h v = elim (lt-or-ge 0 (h % 2)) [
-      | inl o ↦ (m, (h + 969) / 2, odd-scale n m h v (λ e. omega arith))
-      | inr o ↦ (m * 2, (h + 969) / 2, even-scale n m h v (omega arith))
-    ]
+    go m h v = (m * (2 - h % 2), (h + 969) / 2, parity-scale n m h v)
 
 -- ---- the theorem
 

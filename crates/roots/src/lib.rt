@@ -1,19 +1,21 @@
 // IEEE 754's square root of an f64, in whole numbers. A float x above 0 is n units of 2^-1074, and its root in these units is the root of n * 2^1074.
-// That number is written as radicand * 2^52 * 4^c, the radicand of 53 or 54 binary digits. The root of radicand * 2^52 has 53 digits: they are found one
-// by one, and the last is rounded by the remainder. They are the significand of the result, and c is its exponent.
-// 4503599627370496 is 2^52, 9223372036854775808 is 2^63, the bit of the sign, and 9218868437227405312 is the pattern of infinity.
+// That number is written as radicand * 2^52 * 4^c, the radicand of 53 or 54 binary digits. The root of radicand * 2^52 has 53 digits: they are the
+// significand of the result, and c is its exponent. They come from a guess by floats (guess.rt) that is certified in whole numbers (certificate.rt);
+// where it is not certified they are found one by one (digits.rt).
+// 4503599627370496 is 2^52, 9007199254740992 is 2^53, 18014398509481984 is 2^54, 9223372036854775808 is 2^63, the bit of the sign, 9218868437227405312 is
+// the pattern of infinity, and 4602678819172646912 is 1022 * 2^52, which added to a significand makes the pattern of significand / 2^52.
+
+mod certificate;
+mod digits;
+mod guess;
 
 ghost use mathlib.Core.Path.{_≡_};
 ghost use Prim.Native.Nat.{_-_, _*_, _^_, _≤_, _<_};
 ghost use Rattle.roots.specs.SquareRoot.{squareRoot};
-ghost use Rattle.roots.specs.Steps.{magnitude, Partial, NextDigit, WholeRoot, NearestWhole, Normal, RootPattern};
-
-// The digits of the radicand still to come, the root of those passed, and what its square leaves of them.
-struct Digits {
-    rest: u64,
-    root: u64,
-    remainder: u64,
-}
+ghost use Rattle.roots.specs.Steps.{magnitude, NearestWhole, Normal, RootPattern};
+use certificate::certified_root;
+use digits::nearest_by_digits;
+use guess::root_guess;
 
 // significand * 2^exponent.
 struct Scaled {
@@ -21,57 +23,25 @@ struct Scaled {
     exponent: u64,
 }
 
-// One more digit of the root: two digits of the rest go over to the remainder.
-fn next_digit(s: Digits) -> Digits
-    requires { ⌜ Partial (s .rest) (s .root) (s .remainder) ⌝ }
-    ensures { λ r. ⌜ NextDigit (s .rest) (s .root) (s .remainder) (r .rest) (r .root) (r .remainder) ⌝ }
+// The whole number nearest to the root of significand * (2 - parity) * 2^52. The guess, from 1 to 2, is read as a whole number of units of 2^-52: its
+// pattern is 1023 * 2^52 and the fraction, and 1023 * 2^52 + 2^53 is 2^52 modulo 2^54.
+fn nearest_root(significand: u64, parity: u64) -> u64
+    requires { ⌜ (2 ^ 52 ≤ significand) × (significand < 2 ^ 53) × (parity < 2) ⌝ }
+    ensures { λ r. ⌜ NearestWhole (significand * (2 - parity)) r ⌝ }
 {
-    let rest = s.rest % 4503599627370496 * 4;
-    let remainder = s.remainder * 4 + s.rest / 4503599627370496;
-    if s.root * 4 < remainder {
-        Digits {
-            rest,
-            root: s.root * 2 + 1,
-            remainder: remainder - (s.root * 4 + 1),
-        }
-    } else {
-        Digits {
-            rest,
-            root: s.root * 2,
-            remainder,
-        }
+    let radicand = significand * (2 - parity);
+    let guess = root_guess(f64::from_bits(significand + 4602678819172646912), parity);
+    if guess != guess {
+        return nearest_by_digits(radicand);
     }
-}
-
-// The whole root of radicand * 2^52, of 53 digits, and its remainder.
-fn root_digits(radicand: u64) -> Digits
-    requires { ⌜ radicand < 2 ^ 54 ⌝ }
-    ensures { λ r. ⌜ WholeRoot radicand (r .root) (r .remainder) ⌝ }
-{
-    let mut s = Digits {
-        rest: radicand,
-        root: 0,
-        remainder: 0,
-    };
-    let mut left: u64 = 53;
-    while 0 < left {
-        s = next_digit(s);
-        left -= 1;
+    let root = certified_root(
+        radicand,
+        (f64::to_bits(guess) % 18014398509481984 + 9007199254740992) % 18014398509481984,
+    );
+    if root == 0 {
+        return nearest_by_digits(radicand);
     }
-    s
-}
-
-// The whole number nearest to the root of radicand * 2^52, which is above root + 1/2 exactly where the remainder is above root.
-fn nearest_root(radicand: u64) -> u64
-    requires { ⌜ (2 ^ 52 ≤ radicand) × (radicand < 2 ^ 54 - 1) ⌝ }
-    ensures { λ r. ⌜ NearestWhole radicand r ⌝ }
-{
-    let d = root_digits(radicand);
-    if d.root < d.remainder {
-        d.root + 1
-    } else {
-        d.root
-    }
+    root
 }
 
 // The digits of a subnormal float, moved up to 53 places.
@@ -114,12 +84,7 @@ fn root_pattern(pattern: u64) -> u64
     ensures { λ r. ⌜ RootPattern (magnitude pattern) r ⌝ }
 {
     let s = from_pattern(pattern);
-    let field = (s.exponent + 969) / 2;
-    if s.exponent % 2 == 0 {
-        field * 4503599627370496 + nearest_root(s.significand * 2)
-    } else {
-        field * 4503599627370496 + nearest_root(s.significand)
-    }
+    (s.exponent + 969) / 2 * 4503599627370496 + nearest_root(s.significand, s.exponent % 2)
 }
 
 // The square root of x: NaN below 0; the zeros and infinity are their own roots.
@@ -130,17 +95,14 @@ pub fn square_root(x: f64) -> f64
         return x;
     }
     let pattern = f64::to_bits(x);
+    if pattern < 9218868437227405312 {
+        if pattern == 0 {
+            return x;
+        }
+        return f64::from_bits(root_pattern(pattern));
+    }
     if 9223372036854775808 < pattern {
         return 0.0 / 0.0;
     }
-    if pattern == 9223372036854775808 {
-        return x;
-    }
-    if pattern == 0 {
-        return x;
-    }
-    if 9218868437227405312 <= pattern {
-        return x;
-    }
-    f64::from_bits(root_pattern(pattern))
+    x
 }

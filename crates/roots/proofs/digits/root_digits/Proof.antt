@@ -1,8 +1,8 @@
--- `roots::root_digits` meets its contract. The loop's invariant is `Found`: the digits that are left, at their scale.
+-- `roots::digits::root_digits` meets its contract. The loop's invariant is `Found`: the digits that are left, at their scale.
 use native.Mathlib.Omega.{arith}
 use Rattle.roots.proofs.RootDigits.{Found, found-none, partial, found-next, found-all}
-use Rattle.roots.proofs.root_digits.Statement.{statement}
-use Rattle.roots.proofs.root_digits.Tie as tie
+use Rattle.roots.proofs.digits.root_digits.Statement.{statement}
+use Rattle.roots.proofs.digits.root_digits.Tie as tie
 
 abbrev Inv-loop : tie.InvT-loop
 Inv-loop radicand s₀ left₀ s left = Found radicand (s .rest) (s .root) (s .remainder) left

@@ -1,6 +1,5 @@
 -- The table is right: three tests that antt computes, two over the whole table and one over s, and the laws that carry them to each entry and each s.
 -- Assumes nothing.
-use mathlib.Core.Path.{_≡_, refl, sym, subst}
 use mathlib.Core.Bool.{Bool}
 use Prim.Native.Nat.{ℕ, _<_}
 use lib.Dec.{T}

@@ -3,7 +3,7 @@
 --   v_s = u_s + ½t·u_(s−1) − r_(s−2)        degree 3s (odd s) or 3s − 2 (even s ≥ 2)
 -- The definition solves the first equation for u_s, one coefficient after another; `Obeys` says that what it gives obeys the equation (`table-right`,
 -- proofs/Rule.antt, proves that for s up to 10).
-use mathlib.Core.Bool.{Bool, true, _&&_}
+use mathlib.Core.Bool.{Bool, _&&_}
 use mathlib.Core.List.{List, [], _∷_, _++_}
 use Prim.Native.Nat.{ℕ, zero, suc, _+_, _*_, _-_, _/_, _%_}
 use lib.IntN.{pos}

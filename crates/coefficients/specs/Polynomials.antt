@@ -1,6 +1,7 @@
 -- 01, "Off the ladder's path": `uv_poly` (src/xsf/par_cyl.rs) over `polevl` (src/xsf/cephes/polevl.rs), and the sums over s of `pbdv_elementary`. Each step
 -- is one rounded operation, left to right. The sums are shut to other crates.
 pub mod Open
+pub mod Examples
 use mathlib.Core.Bool.{Bool, true, cond}
 use mathlib.Core.List.{List}
 use Prim.Native.Nat.{ℕ, zero, suc, _/_, _%_}

@@ -1,25 +1,24 @@
 -- The argument of `lgam_stirling_corr` is 13 or more: bounds of the order go through the two operations. Assumes nothing.
 use mathlib.Core.Path.{_≡_, refl, sym, _∙_, subst}
-use mathlib.Core.Bool.{Bool, true, false, _&&_, _||_, not, cond}
-use Prim.Native.Nat.{ℕ, _+_, _*_, _≤_}
+use mathlib.Core.Bool.{Bool, true, false}
+use Prim.Native.Nat.{ℕ, _*_, _≤_}
 use native.Mathlib.Omega.{arith}
 use borrow.Author.Tests.{ltb-true}
 use lib.Dec.{T, lit≤, lit<}
 use lib.IntN.{ℤ}
-use lib.Ieee.{Float, nan, inf, fin, binary64, up, down, isNan, lt, le, neg, ofBits}
+use lib.Ieee.{Float, nan, inf, fin, binary64, up, down, lt, le, neg, ofBits}
 use lib.Ieee.Bits.{is-true}
 use lib.Ieee.Exact.{HasValue}
 use lib.Ieee.Fits.{down-pos}
-use Rattle.floats.specs.Operations.{_⊕_, _⊖_, f½}
+use Rattle.floats.specs.Operations.{f½}
 use Rattle.floats.specs.Facts.{Between, SignedLe}
-use Rattle.floats.specs.Functions.{infinite}
 use Rattle.floats.proofs.Values.{own-value}
 use Rattle.floats.proofs.Arithmetic.{sub-is}
 use Rattle.floats.proofs.Comparison.{lt-at, le-at, signedLe-of-test, test-of-signedLe}
 use Rattle.floats.proofs.Bounds.{value-between, neg-between, plus-between, apart-between}
 use Rattle.near.proofs.NearRange.{half-value}
 use Rattle.expansion.specs.Constants.{beyond, f20}
-use Rattle.expansion.specs.Expansion.{parameter, refusal}
+use Rattle.expansion.specs.Expansion.{parameter}
 use Rattle.expansion.specs.Expansion.Open.{in-range}
 use Rattle.expansion.specs.Range.{f13, stirlingArgument, Accepted, Near}
 
@@ -54,7 +53,7 @@ kept-finite : (s : Bool) (m : ℕ) (e : ℤ) → lt (neg beyond) (fin s m e) ≡
 kept-finite false m e p (a, b) = absurd (let c = down-pos e in omega arith)
 kept-finite true m e p q =
     let r = ltb-true (m * up e) (2147483648 * down e)
-        (sym (lt-at (neg beyond) (fin true m e) true (2147483648 * down e) true (m * up e) (down e) (down-pos e) (beyond-value (down e)) (own-value true m e)) ∙ p) in
+    (sym (lt-at (neg beyond) (fin true m e) true (2147483648 * down e) true (m * up e) (down e) (down-pos e) (beyond-value (down e)) (own-value true m e)) ∙ p) in
     record { size = m * up e; over = down e; positive = down-pos e; value = own-value true m e; least = omega arith; most = omega arith }
 
 kept : (v : Float) → lt (neg beyond) v ≡ true → le v (neg f20) ≡ true → Between v true 28 4294967296 2

@@ -2,6 +2,7 @@
 -- exponent, and the request that answers the pair. Each step is one rounded operation, left to right. The definitions of the mantissas, the refusal and the
 -- answer are shut to other crates.
 pub mod Open
+pub mod Examples
 use mathlib.Core.Bool.{Bool, _&&_, _||_, cond, not}
 use mathlib.Core.Option.{Option, some, none}
 use Prim.Native.Nat.{ℕ}

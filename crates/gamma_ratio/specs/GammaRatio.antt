@@ -1,6 +1,7 @@
 -- 01, "Off the ladder's path": log1pmx, `lgam_stirling_corr` (src/xsf/cephes/gamma.rs) and `ln_gamma_ratio` (src/xsf/par_cyl.rs). Each step is one rounded
 -- operation, left to right. The definitions are shut to other crates.
 pub mod Open
+pub mod Examples
 use mathlib.Core.Bool.{false}
 use Prim.Native.Nat.{ℕ}
 use lib.Ieee.{Float, lt, neg}

@@ -14,7 +14,7 @@ use Rattle.logarithm.specs.Logarithm.Examples.{computed, values, example
 
 -- ---- values from the list of examples, by their place in it
 
-value : (n : ℕ) → getD computed n nan ≡ getD values n nan
+pub value : (n : ℕ) → getD computed n nan ≡ getD values n nan
 value n = ap (λ (l : List Float). getD l n nan) examples-hold
 
 pub ln-one : ln f1 ≡ f0

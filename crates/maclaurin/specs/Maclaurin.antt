@@ -2,6 +2,7 @@
 -- refusals of the request. Each step is one rounded operation, left to right. The definitions of the pair, the refusal and the answer are shut to other
 -- crates.
 pub mod Open
+pub mod Examples
 use mathlib.Core.Bool.{Bool, false, _||_, cond}
 use mathlib.Core.Option.{Option, some, none}
 use Prim.Native.Nat.{ℕ}

@@ -1,5 +1,5 @@
 -- `coefficients::polevl` meets its contract: the coefficients that are left lead to the polynomial's value.
-use mathlib.Core.Path.{_≡_, refl}
+use mathlib.Core.Path.{_≡_}
 use Prim.Native.Nat.{_≤_, _-_}
 use native.Mathlib.Omega.{arith}
 use lib.ListN.{length, drop}

@@ -20,6 +20,4 @@ d-expansion-spec =
     let m = c .before in
     let t = m .before in
     let r = sym (t .before .refusal .ensures) ∙ t .if1 .left in
-    let p = m .pbdv-elementary .ensures in
-    let d = c .mul-exp-both .ensures in
-    (sym r, rw (an-answer _ _ r, d .0, d .1, p .0, p .1 .0, p .1 .1))))
+    (sym r, an-answer _ _ _ _ _ _ _ r (m .pbdv-elementary .ensures) (c .mul-exp-both .ensures))))

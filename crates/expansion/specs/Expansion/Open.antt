@@ -7,8 +7,9 @@ use native.Mathlib.Omega.{arith}
 use borrow.Author.Tests.{ne-eqb}
 use lib.Ieee.{Float, isNan, lt, le, neg}
 use Rattle.floats.specs.Functions.{infinite}
+use Rattle.mul_exp.specs.MulExp.{mulExp}
 use Rattle.expansion.specs.Constants.{beyond, f20}
-use Rattle.expansion.specs.Expansion.{parameter, clamped, mantissasBy, mantissas, refusal, pairBy, answer}
+use Rattle.expansion.specs.Expansion.{parameter, clamped, mantissasBy, mantissas, refusal, answer}
 
 one-not-zero : _≡_ {A = ℕ} 1 0 → ⊥
 one-not-zero h = omega arith
@@ -57,9 +58,12 @@ module _ (v x : Float) where
   unfolding answer
   no-answer number h i = rw (← i, ne-eqb number 0 h)
 
-  pub an-answer : refusal v x ≡ 0 → answer v x ≡ some (pairBy (mantissas v x))
+  pub an-answer : (value derivative exponent first second : Float) → refusal v x ≡ 0
+      → (value ≡ mantissas v x .0) × ((derivative ≡ mantissas v x .1) × (exponent ≡ mantissas v x .2))
+      → (first ≡ mulExp value exponent) × (second ≡ mulExp derivative exponent)
+      → some (first, second) ≡ answer v x
   unfolding answer
-  an-answer h = rw (h)
+  an-answer value derivative exponent first second h (a, (b, c)) (d, e) = rw (h, d, e, a, b, c)
 
   pub in-range : refusal v x ≡ 0 → (lt (neg beyond) v ≡ true) × (le v (neg f20) ≡ true)
   unfolding refusal

@@ -1,5 +1,5 @@
 -- `gamma_ratio::log1pmx` meets its contract: the turns that are left lead to the sum.
-use mathlib.Core.Path.{_≡_, refl, sym, _∙_, ap}
+use mathlib.Core.Path.{_≡_, refl, ap}
 use mathlib.Core.Bool.{false}
 use Prim.Native.Nat.{_-_}
 use native.Mathlib.Omega.{arith}

@@ -1,7 +1,5 @@
 -- `maclaurin::maclaurin` meets its contract: the refusal's number decides, and an accepted request answers the pair.
-use mathlib.Core.Path.{sym, _∙_, ap}
-use mathlib.Core.Option.{some}
-use lib.Ieee.{Float}
+use mathlib.Core.Path.{sym, _∙_}
 use Rattle.refusals.specs.Answer.{refusalOf, pairOf}
 use Rattle.maclaurin.specs.Maclaurin.Open.{no-answer, an-answer}
 use Rattle.maclaurin.proofs.maclaurin.Statement.{statement}

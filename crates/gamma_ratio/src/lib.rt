@@ -21,7 +21,7 @@ pub fn log1pmx(w: f64) -> f64
 {
     let mut c = w;
     let mut sum = 0.0;
-    for i in 2u32..=499 {
+    for i in 2u32..500 {
         c = c * -w;
         let term = c / (i as f64);
         sum = sum + term;

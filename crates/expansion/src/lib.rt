@@ -62,24 +62,25 @@ fn g_bar(a: f64) -> f64
     1.0 + 0.5 * exponential::exp_m1(-gamma_ratio::ln_gamma_ratio(a))
 }
 
-// The expansion, for every f64: orders of -20 and below are those that it is made for.
+// The expansion, for every f64: orders of -20 and below are those that it is made for. The factor g comes first: the roots and sums do not wait for it.
 pub fn pbdv_elementary(v: f64, x: f64) -> Mantissas
     ensures value { λ r. ⌜ r .value ≡ mantissas v x .0 ⌝ }
     ensures derivative { λ r. ⌜ r .derivative ≡ mantissas v x .1 ⌝ }
     ensures exponent { λ r. ⌜ r .exponent ≡ mantissas v x .2 ⌝ }
 {
     let a = -v - 0.5;
+    let g = g_bar(a);
     let y = clamp(x);
     let s = square_root(0.25 * y * y + a);
+    let exponent = exponent_of(a, y, s);
     let t = 0.5 * y / square_root(a);
     let sums = uv_sums(t, weight(a, t));
-    let g = g_bar(a);
-    let value = g * sums.u / square_root(2.0 * s);
-    let derivative = -g * sums.v * square_root(0.5 * s);
+    let divisor = square_root(2.0 * s);
+    let factor = square_root(0.5 * s);
     Mantissas {
-        value: value,
-        derivative: derivative,
-        exponent: exponent_of(a, y, s),
+        value: g * sums.u / divisor,
+        derivative: -g * sums.v * factor,
+        exponent: exponent,
     }
 }
 

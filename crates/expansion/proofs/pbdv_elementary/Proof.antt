@@ -19,20 +19,21 @@ pbdv-elementary-spec =
     (λ c κs. tt)
     (λ c κs. tt)
     (λ c.
-    let r = c .before in
-    let u = r .before .before in
-    let g = u .before .before in
-    let q = g .before in
-    let a = q .before in
-    let t = a .before in
-    let s = t .before in
-    let y = s .before in (
+    let f = c .before .before in
+    let d = f .before in
+    let q = d .before in
+    let w = q .before in
+    let t = w .before in
+    let e = t .before in
+    let s = e .before in
+    let y = s .before in
+    let g = y .before in (
       rw (
         mantissas-are,
-        u .square-root3 .ensures,
         g .g-bar .ensures,
+        d .square-root3 .ensures,
         q .uv-sums .ensures .0,
-        a .weight .ensures,
+        w .weight .ensures,
         t .square-root2 .ensures,
         s .square-root .ensures,
         y .clamp .ensures,
@@ -40,14 +41,14 @@ pbdv-elementary-spec =
       (
         rw (
           mantissas-are,
-          r .square-root4 .ensures,
           g .g-bar .ensures,
+          f .square-root4 .ensures,
           q .uv-sums .ensures .1,
-          a .weight .ensures,
+          w .weight .ensures,
           t .square-root2 .ensures,
           s .square-root .ensures,
           y .clamp .ensures,
         ),
-        rw (mantissas-are, c .exponent-of .ensures, s .square-root .ensures, y .clamp .ensures),
+        rw (mantissas-are, e .exponent-of .ensures, s .square-root .ensures, y .clamp .ensures),
       ),
     )))

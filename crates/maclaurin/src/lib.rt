@@ -10,12 +10,11 @@ use mul_exp::Both;
 use mul_exp::mul_exp_both;
 use refusals::Answer;
 
-// The source's constants.
+// The source's LN_2.
 const LN_2: f64 = 0.6931471805599453;
 
-// 2^600.
-const SCALE: f64 =
-    4149515568880992958512407863691161151012446232242436899995657329690652811412908146399707048947103794288197886611300789182395151075411775307886874834113963687061181803401509523685376.0;
+// 2^600, the source's pow2(600).
+const SCALE: f64 = 4.149515568880993e180;
 
 // The sums of the series: d of w(x), dp of w'(x).
 struct Sums {

@@ -1,5 +1,6 @@
 // The functions that compare/ holds to the Rust, each under a C name of its own. Each only calls the function that it is named after.
 
+mod expansion_calls;
 mod ladder_calls;
 mod table_calls;
 

@@ -1,0 +1,106 @@
+// The expansion, the Maclaurin series and the functions below them.
+
+ghost use mathlib.Core.Path.{_≡_};
+ghost use mathlib.Core.Bool.{not};
+ghost use lib.Dec.{eqb};
+ghost use Rattle.gamma_ratio.specs.GammaRatio.{log1pmx, lgamStirlingCorr, lnGammaRatio};
+ghost use Rattle.mul_exp.specs.MulExp.{mulExp};
+ghost use Rattle.coefficients.specs.Polynomials.{uvPoly, uSum, vSum};
+ghost use Rattle.expansion.specs.Expansion as expanded;
+ghost use Rattle.maclaurin.specs.Maclaurin as maclaurin;
+ghost use Rattle.compared.specs.Answers.{pairOrNan};
+use crate::table_calls::ComparedAnswer;
+use crate::table_calls::flat;
+
+// The sums of u_s and of v_s.
+#[repr(C)]
+pub struct ComparedSums {
+    pub u: f64,
+    pub v: f64,
+}
+
+// D and its derivative as mantissas with one exponent.
+#[repr(C)]
+pub struct ComparedMantissas {
+    pub value: f64,
+    pub derivative: f64,
+    pub exponent: f64,
+}
+
+#[no_mangle]
+pub extern "C" fn compared_log1pmx(w: f64) -> f64
+    ensures { λ r. ⌜ r ≡ log1pmx w ⌝ }
+{
+    gamma_ratio::log1pmx(w)
+}
+
+#[no_mangle]
+pub extern "C" fn compared_lgam_stirling_corr(x: f64) -> f64
+    ensures { λ r. ⌜ r ≡ lgamStirlingCorr x ⌝ }
+{
+    gamma_ratio::lgam_stirling_corr(x)
+}
+
+#[no_mangle]
+pub extern "C" fn compared_ln_gamma_ratio(z: f64) -> f64
+    ensures { λ r. ⌜ r ≡ lnGammaRatio z ⌝ }
+{
+    gamma_ratio::ln_gamma_ratio(z)
+}
+
+#[no_mangle]
+pub extern "C" fn compared_mul_exp(m: f64, e: f64) -> f64
+    ensures { λ r. ⌜ r ≡ mulExp m e ⌝ }
+{
+    mul_exp::mul_exp(m, e)
+}
+
+// bar is false where it is 0, and true where it is any other number.
+#[no_mangle]
+pub extern "C" fn compared_uv_poly(p: &[f64], s: u32, t: f64, bar: u32) -> f64
+    ensures { λ r. ⌜ r ≡ uvPoly (now (p .entry)) s t (not (eqb bar 0)) ⌝ }
+{
+    coefficients::uv_poly(p, s, t, bar != 0)
+}
+
+#[no_mangle]
+pub extern "C" fn compared_uv_sums(t: f64, w: f64) -> ComparedSums
+    ensures u { λ r. ⌜ r .u ≡ uSum t w ⌝ }
+    ensures v { λ r. ⌜ r .v ≡ vSum t w ⌝ }
+{
+    let sums = coefficients::uv_sums(t, w);
+    ComparedSums {
+        u: sums.u,
+        v: sums.v,
+    }
+}
+
+#[no_mangle]
+pub extern "C" fn compared_pbdv_elementary(v: f64, x: f64) -> ComparedMantissas
+    ensures value { λ r. ⌜ r .value ≡ expanded.mantissas v x .0 ⌝ }
+    ensures derivative { λ r. ⌜ r .derivative ≡ expanded.mantissas v x .1 ⌝ }
+    ensures exponent { λ r. ⌜ r .exponent ≡ expanded.mantissas v x .2 ⌝ }
+{
+    let m = expansion::pbdv_elementary(v, x);
+    ComparedMantissas {
+        value: m.value,
+        derivative: m.derivative,
+        exponent: m.exponent,
+    }
+}
+
+#[no_mangle]
+pub extern "C" fn compared_d_expansion(v: f64, x: f64) -> ComparedAnswer
+    ensures number { λ r. ⌜ r .refusal ≡ expanded.refusal v x ⌝ }
+    ensures pair { λ r. ⌜ (r .value, r .derivative) ≡ pairOrNan (expanded.answer v x) ⌝ }
+{
+    flat(expansion::d_expansion(v, x))
+}
+
+#[no_mangle]
+pub extern "C" fn compared_maclaurin(a: f64, x: f64, c0: f64, c1: f64, e: f64) -> ComparedAnswer
+    ensures number { λ r. ⌜ r .refusal ≡ maclaurin.refusal a x c0 c1 e ⌝ }
+    ensures pair { λ r. ⌜ (r .value, r .derivative) ≡ pairOrNan (maclaurin.answer a x c0 c1 e) ⌝ }
+{
+    flat(maclaurin::maclaurin(a, x, c0, c1, e))
+}

@@ -15,6 +15,7 @@ macro_rules! entries {
         /// The extracted functions and tables by their own names, open to other crates.
         pub mod entry {
             pub const LARGE_V: f64 = super::LARGE_V;
+            pub const GAMMA_A: [f64; 5] = super::GAMMA_A;
             pub const U_POLY: [&[f64]; 11] = super::U_POLY;
             pub const V_POLY: [&[f64]; 11] = super::V_POLY;
 

@@ -1,5 +1,6 @@
 //! The benchmark: time for each call of the library's function and of its reference.
 
+mod expansion;
 mod ladder;
 
 use std::hint::black_box;
@@ -16,7 +17,7 @@ const ROUNDS: usize = 25;
 const SEED: u64 = 1;
 
 /// Prints the times of each function, over many inputs and at its points, of each table call at its
-/// points, and of the ladder.
+/// points, of the ladder, and of the expansion's calls at their points.
 pub fn run<'a>(functions: impl Iterator<Item = &'a Function>, calls: &[Call]) {
     println!("ns per call, best of {ROUNDS} rounds: library, Rust, ratio");
     for function in functions {
@@ -32,6 +33,7 @@ pub fn run<'a>(functions: impl Iterator<Item = &'a Function>, calls: &[Call]) {
         }
     }
     ladder::run();
+    expansion::run();
 }
 
 fn print_times(name: &str, (library, reference): (f64, f64)) {
@@ -42,18 +44,18 @@ fn print_times(name: &str, (library, reference): (f64, f64)) {
 /// Both sides are called through a pointer.
 fn times(function: &Function, inputs: &[Input]) -> (f64, f64) {
     match &function.sides {
-        Sides::Number(f) => best(inputs, f, |f, x, _| f(x)),
-        Sides::NumberOfTwo(f) => best(inputs, f, |f, x, y| f(x, y)),
-        Sides::Truth(f) => best(inputs, f, |f, x, _| f(x)),
-        Sides::TruthOfTwo(f) => best(inputs, f, |f, x, y| f(x, y)),
-        Sides::Whole(f) => best(inputs, f, |f, x, _| f(x)),
+        Sides::Number(f) => best(inputs, f, |f, (x, _)| f(x)),
+        Sides::NumberOfTwo(f) => best(inputs, f, |f, (x, y)| f(x, y)),
+        Sides::Truth(f) => best(inputs, f, |f, (x, _)| f(x)),
+        Sides::TruthOfTwo(f) => best(inputs, f, |f, (x, y)| f(x, y)),
+        Sides::Whole(f) => best(inputs, f, |f, (x, _)| f(x)),
     }
 }
 
 /// Both sides fill the same table, which is there before the time is taken.
 fn table_times(call: &Call, v: f64, x: f64) -> (f64, f64) {
     let mut table = vec![0.0; needed(v)];
-    best(&[(v, x)], &Call::SIDES, |side, v, x| {
+    best(&[(v, x)], &Call::SIDES, |side, (v, x)| {
         side(call, v, x, &mut table)
     })
 }
@@ -76,17 +78,17 @@ fn ordinary_inputs(function: &Function) -> Vec<Input> {
 }
 
 /// The least time for a call of each side, the rounds of the two in turn.
-fn best<F: Copy, A>(
-    inputs: &[Input],
+fn best<I: Copy, F: Copy, A>(
+    inputs: &[I],
     pair: &Pair<F>,
-    mut call: impl FnMut(F, f64, f64) -> A,
+    mut call: impl FnMut(F, I) -> A,
 ) -> (f64, f64) {
     let mut round = |function: F, passes: usize| {
         let function = black_box(function);
         let start = Instant::now();
         for _ in 0..passes {
-            for &(x, y) in black_box(inputs) {
-                black_box(call(function, x, y));
+            for &input in black_box(inputs) {
+                black_box(call(function, input));
             }
         }
         start.elapsed()
@@ -111,12 +113,11 @@ mod tests {
 
     use super::{INPUTS, ROUNDS, best, ordinary_inputs, points};
     use crate::functions::Pair;
-    use crate::{LAYERS, start_sums, tables};
+    use crate::{all_functions, start_sums, tables};
 
     #[test]
     fn answers_at_the_inputs_are_finite_and_not_zero() {
-        let functions = LAYERS.iter().flat_map(|(_, functions)| *functions);
-        for function in functions.filter(|function| function.own.is_some()) {
+        for function in all_functions().filter(|function| function.own.is_some()) {
             let inputs = ordinary_inputs(function);
             assert_eq!(inputs.len(), INPUTS);
             for (x, y) in inputs.into_iter().chain(points(function).iter().copied()) {
@@ -170,8 +171,8 @@ mod tests {
             library: 'l',
             reference: 'r',
         };
-        let times = best(&[(2.0, 0.3)], &pair, |side, x, y| {
-            assert_eq!((x, y), (2.0, 0.3));
+        let times = best(&[(2.0, 0.3)], &pair, |side, input| {
+            assert_eq!(input, (2.0, 0.3));
             turns.set(turns.get() + usize::from(last.replace(side) != side));
         });
         assert_eq!(turns.get(), 2 * ROUNDS);

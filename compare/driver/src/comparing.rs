@@ -31,6 +31,17 @@ impl Comparable for (f64, f64) {
     }
 }
 
+impl<const N: usize> Comparable for [f64; N] {
+    fn alike(&self, other: &Self) -> bool {
+        self.iter().zip(other).all(|(a, b)| a.alike(b))
+    }
+
+    fn show(&self) -> String {
+        let numbers: Vec<_> = self.iter().map(f64::show).collect();
+        numbers.join(", ")
+    }
+}
+
 impl Comparable for i32 {
     fn alike(&self, other: &Self) -> bool {
         self == other

@@ -115,24 +115,26 @@ impl Function {
 
 #[cfg(test)]
 mod tests {
-    use crate::LAYERS;
+    use crate::all_functions;
 
     /// Enough for all edge inputs and many drawn ones.
     const COUNT: usize = 300_000;
 
     #[test]
     fn numbers_and_names() {
-        let functions = LAYERS.iter().flat_map(|(_, functions)| *functions);
-        let functions: Vec<_> = functions.map(|f| (f.number, f.name)).collect();
+        let functions: Vec<_> = all_functions().map(|f| (f.number, f.name)).collect();
         let names = "abs is_nan is_infinite to_i32 trunc fract min max signum alike \
-                     exp exp2 exp_m1 ln pow sin cos square_root gamma2 dvsa dvla vvsa vvla";
-        let expected: Vec<_> = (1..).zip(names.split(' ')).collect();
+                     exp exp2 exp_m1 ln pow sin cos square_root gamma2 dvsa dvla vvsa vvla \
+                     log1pmx lgam_stirling_corr ln_gamma_ratio mul_exp";
+        // 24 and 25 are the table calls.
+        let numbers = (1..=23).chain(26..);
+        let expected: Vec<_> = numbers.zip(names.split(' ')).collect();
         assert_eq!(functions, expected);
     }
 
     #[test]
     fn the_seed_fixes_the_inputs_and_the_count_is_kept() {
-        for function in LAYERS.iter().flat_map(|(_, functions)| *functions) {
+        for function in all_functions() {
             let bits = |seed| -> Vec<(u64, u64)> {
                 let inputs = function.inputs(COUNT, seed);
                 inputs.map(|(x, y)| (x.to_bits(), y.to_bits())).collect()

@@ -127,6 +127,23 @@ pub fn power_of_two(k: i32) -> f64 {
     }
 }
 
+/// A float between `low` and `high` at which `course` differs from that just below.
+pub fn change<T: PartialEq>(course: impl Fn(f64) -> T, mut low: f64, mut high: f64) -> Option<f64> {
+    let first = course(low);
+    if course(high) == first {
+        return None;
+    }
+    while low.next_up() < high {
+        let middle = 0.5 * (low + high);
+        if course(middle) == first {
+            low = middle;
+        } else {
+            high = middle;
+        }
+    }
+    Some(high)
+}
+
 /// `count` inputs of a function of one number or of `two`: all edge inputs, then drawn ones. Those
 /// of one number stand with their neighbours.
 pub fn inputs(

@@ -4,6 +4,7 @@ mod bench;
 mod comparing;
 mod elementary;
 mod entries;
+mod expansion;
 mod floats;
 mod functions;
 mod inputs;
@@ -20,7 +21,7 @@ use comparing::Tally;
 use functions::Function;
 use store::Record;
 
-/// The layers of the library by name, with their functions.
+/// The layers of the library that have only functions of one or two numbers, by name.
 const LAYERS: [(&str, &[Function]); 3] = [
     ("floats", &floats::FUNCTIONS),
     ("elementary", &elementary::FUNCTIONS),
@@ -29,10 +30,16 @@ const LAYERS: [(&str, &[Function]); 3] = [
 
 const USAGE: &str = "\
 arguments: compare COUNT SEED | entries | store FOLDER | bench
-  COUNT   inputs for each function, requests for each table call and for the ladder, a whole number
-          above 0
+  COUNT   inputs for each function and for each call of the expansion, requests for each table call
+          and for the ladder, a whole number above 0
   SEED    of the random inputs and requests, a whole number below 2^64
   FOLDER  where the files of stored answers go";
+
+/// The functions of one or two numbers of all layers.
+fn all_functions() -> impl Iterator<Item = &'static Function> {
+    let functions = LAYERS.iter().flat_map(|(_, functions)| *functions);
+    functions.chain(&expansion::FUNCTIONS)
+}
 
 fn main() -> ExitCode {
     let arguments: Vec<String> = std::env::args().skip(1).collect();
@@ -45,8 +52,7 @@ fn main() -> ExitCode {
         ["entries"] => entries::run(),
         ["store", folder] => store_all(Path::new(folder)),
         ["bench"] => {
-            let functions = LAYERS.iter().flat_map(|(_, functions)| *functions);
-            bench::run(functions, &tables::CALLS);
+            bench::run(all_functions(), &tables::CALLS);
             true
         }
         _ => return usage(),
@@ -59,8 +65,7 @@ fn usage() -> ExitCode {
     ExitCode::from(2)
 }
 
-/// Compares every layer, the table calls and the ladder. Gives whether there was no
-/// difference.
+/// Compares every layer. Gives whether there was no difference.
 fn compare(count: usize, seed: u64) -> bool {
     let mut right = true;
     for (name, functions) in LAYERS {
@@ -77,7 +82,13 @@ fn compare(count: usize, seed: u64) -> bool {
     right &= tally.finish("tables");
     let mut tally = Tally::of_calls(ladder::CALLS);
     ladder::compare(&mut tally, count, seed);
-    right & tally.finish("ladder")
+    right &= tally.finish("ladder");
+    let mut tally = Tally::of_functions(expansion::FUNCTIONS.len() + expansion::CALLS);
+    for function in &expansion::FUNCTIONS {
+        function.compare(&mut tally, count, seed);
+    }
+    expansion::compare_calls(&mut tally, count, seed);
+    right & tally.finish("expansion")
 }
 
 /// Writes every file of stored answers. Gives whether all were written.
@@ -86,7 +97,8 @@ fn store_all(folder: &Path) -> bool {
     for (name, functions) in LAYERS {
         right &= store_file(folder, name, &store::all_records(functions));
     }
-    right & store_file(folder, "tables", &tables::stored::all_records())
+    right &= store_file(folder, "tables", &tables::stored::all_records());
+    right & store_file(folder, "expansion", &expansion::stored::all_records())
 }
 
 /// Writes a file of stored answers. Gives whether it was written.

@@ -118,7 +118,7 @@ mod tests {
     use crate::floats::FUNCTIONS;
     use crate::functions::Function;
     use crate::inputs::edges;
-    use crate::{LAYERS, elementary, start_sums};
+    use crate::{all_functions, elementary, start_sums};
 
     #[test]
     fn samples_are_spread() {
@@ -128,7 +128,7 @@ mod tests {
 
     #[test]
     fn each_function_has_its_records_with_all_edges() {
-        for function in LAYERS.iter().flat_map(|(_, functions)| *functions) {
+        for function in all_functions() {
             let mut records = records(function);
             assert_eq!(records.len(), RECORDS);
             records.sort_unstable();
@@ -148,10 +148,10 @@ mod tests {
 
     #[test]
     fn all_limits_are_stored() {
-        for function in elementary::FUNCTIONS.iter().chain(&start_sums::FUNCTIONS) {
+        for function in all_functions() {
             let stored = records(function);
-            let own = function.own.expect("it has inputs of its own");
-            for (x, y) in (own.limits)() {
+            let limits = function.own.map_or(vec![], |own| (own.limits)());
+            for (x, y) in limits {
                 let same = |record: &Record| record[1..3] == [x.to_bits(), y.to_bits()];
                 assert!(stored.iter().any(same), "{} {x:?} {y:?}", function.name);
             }

@@ -102,7 +102,7 @@ pub fn call(kind: Kind) -> &'static Call {
 }
 
 impl Answer {
-    fn refused(refusal: u32) -> Self {
+    pub fn refused(refusal: u32) -> Self {
         Answer {
             refusal,
             value: f64::NAN,
@@ -110,7 +110,7 @@ impl Answer {
         }
     }
 
-    fn pair((value, derivative): (f64, f64)) -> Self {
+    pub fn pair((value, derivative): (f64, f64)) -> Self {
         Answer {
             refusal: 0,
             value,

@@ -78,7 +78,7 @@ fn tables(point: &Point) -> [Lent; 2] {
 fn request_times(held: State, point: Point) -> (f64, f64) {
     let kind = point.kind;
     let (mut lent, mut table) = (tables(&point), vec![0.0; needed(point.v)]);
-    best(&[(point.v, point.x)], &SIDES, |side, v, x| match side {
+    best(&[(point.v, point.x)], &SIDES, |side, (v, x)| match side {
         Side::Ladder => ask(held, &Point { kind, v, x }, lent.each_mut()).value,
         Side::Table => (Call::SIDES.reference)(call(kind), v, x, &mut table).value,
     })
@@ -89,7 +89,7 @@ fn sweep_times() -> (f64, f64) {
     let last = SWEEP.0 + SWEPT as f64 - 1.0;
     let mut lent = tables(&point(Kind::D, last));
     let mut table = vec![0.0; needed(last)];
-    best(&[SWEEP], &SIDES, |side, v, x| match side {
+    best(&[SWEEP], &SIDES, |side, (v, x)| match side {
         Side::Ladder => sweep(v, x, &mut lent).value_below,
         Side::Table => orders(v).fold(0.0, |_, v| {
             (Call::SIDES.library)(call(Kind::D), v, x, &mut table).value

@@ -5,7 +5,7 @@ use std::sync::LazyLock;
 
 use super::terms::{self, Sum};
 use crate::inputs::{
-    Draw, Input, OwnInputs, around, both_signs, close_to, halves, pairs, with_next,
+    Draw, Input, OwnInputs, around, both_signs, change, close_to, halves, pairs, with_next,
 };
 
 /// 2^30/π: from this size on the sine and the cosine of π·x are NaN.
@@ -216,23 +216,6 @@ fn lengths(sum: Sum, orders: i32, size: f64) -> Vec<Input> {
         }
     }
     inputs
-}
-
-/// A float between `low` and `high` at which the number of terms differs from that just below.
-fn change(terms: impl Fn(f64) -> i32, mut low: f64, mut high: f64) -> Option<f64> {
-    let first = terms(low);
-    if terms(high) == first {
-        return None;
-    }
-    while low.next_up() < high {
-        let middle = 0.5 * (low + high);
-        if terms(middle) == first {
-            low = middle;
-        } else {
-            high = middle;
-        }
-    }
-    Some(high)
 }
 
 fn small_argument(draw: &mut Draw) -> f64 {

@@ -82,6 +82,17 @@ impl Call {
     }
 }
 
+impl Comparable for Answer {
+    fn alike(&self, other: &Self) -> bool {
+        answer_difference(self, other).is_none()
+    }
+
+    fn show(&self) -> String {
+        let pair = (self.value, self.derivative).show();
+        format!("refusal {}, pair {pair}", self.refusal)
+    }
+}
+
 fn answer_difference(ours: &Answer, rust: &Answer) -> Option<String> {
     let numbers = [
         ("value", ours.value, rust.value),

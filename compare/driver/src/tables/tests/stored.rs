@@ -3,7 +3,7 @@
 use std::collections::{HashMap, HashSet};
 
 use super::{D, V, branches};
-use crate::CRATES;
+use crate::LAYERS;
 use crate::store::Record;
 use crate::tables::edges::arguments;
 use crate::tables::split::{Split, needed};
@@ -77,7 +77,7 @@ fn requests(call: &Call) -> Vec<Stored> {
 
 #[test]
 fn the_numbers_go_on_from_those_of_the_functions() {
-    let functions = CRATES.iter().flat_map(|(_, functions)| *functions);
+    let functions = LAYERS.iter().flat_map(|(_, functions)| *functions);
     assert_eq!(functions.map(|function| function.number).max(), Some(23));
     assert_eq!([D.number, V.number], [24, 25]);
     for call in &CALLS {

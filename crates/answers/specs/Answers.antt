@@ -12,11 +12,15 @@ use Rattle.answers.specs.Floats.{floatsAnswer}
 use Rattle.answers.specs.Elementary.{elementaryAnswer}
 use Rattle.answers.specs.StartSums.{startSumsAnswer}
 use Rattle.answers.specs.Tables.{tablesAnswer}
+use Rattle.answers.specs.Expansion.{expansionAnswer}
 
 -- number n at x and y: those up to 10 are the functions of `floats`, those up to 18 the elementary functions, those up to 23 gamma2 and the start
--- sums, and the rest the table calls
+-- sums, and of the rest those whose last digit to the base 256 is up to 25 the table calls, the others the expansion and the Maclaurin series
 unfoldable pub answer : ℕ → Float → Float → Float
-answer n x y = cond (leb n 10) (floatsAnswer n x y) (cond (leb n 18) (elementaryAnswer n x y) (cond (leb n 23) (startSumsAnswer n x y) (tablesAnswer n x y)))
+answer n x y =
+    cond (leb n 10) (floatsAnswer n x y)
+    (cond (leb n 18) (elementaryAnswer n x y)
+    (cond (leb n 23) (startSumsAnswer n x y) (cond (leb (n % 256) 25) (tablesAnswer n x y) (expansionAnswer n x y))))
 
 -- whether the function of a record answers what the record holds
 unfoldable pub held : List ℕ → Bool

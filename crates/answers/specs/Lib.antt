@@ -3,4 +3,5 @@ pub mod Floats
 pub mod Elementary
 pub mod StartSums
 pub mod Tables
+pub mod Expansion
 pub mod Answers

@@ -3,6 +3,7 @@
 ghost use mathlib.Core.Path.{_≡_};
 ghost use Rattle.answers.specs.Answers.{answer, held};
 use crate::elementary_answer;
+use crate::expansion_answer;
 use crate::floats_answer;
 use crate::record::number;
 use crate::record::word;
@@ -22,7 +23,10 @@ fn answer_of(n: u64, x: f64, y: f64) -> f64
     if n <= 23 {
         return start_sums_answer::answer_of(n, x, y);
     }
-    tables_answer::answer_of(n, x, y)
+    if n % 256 <= 25 {
+        return tables_answer::answer_of(n, x, y);
+    }
+    expansion_answer::answer_of(n, x, y)
 }
 
 // Whether the function of a record answers what the record holds.

@@ -2,6 +2,7 @@
 
 mod answer;
 mod elementary_answer;
+mod expansion_answer;
 mod floats_answer;
 mod record;
 mod start_sums_answer;
@@ -96,4 +97,5 @@ fn main() {
     report(b"elementary.bin", b"elementary");
     report(b"start_sums.bin", b"start_sums");
     report(b"tables.bin", b"tables");
+    report(b"expansion.bin", b"expansion");
 }

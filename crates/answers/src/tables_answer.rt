@@ -45,7 +45,7 @@ fn slot_at(t: &[f64], k: usize) -> f64
 }
 
 // The refusal number, the value or the derivative of an answer.
-fn part_of(a: tables::Answer, place: u64) -> f64
+pub fn part_of(a: tables::Answer, place: u64) -> f64
     ensures { λ r. ⌜ r ≡ cond (eqb place 64) (whole (refusalOf a)) (partOf (pairOf a) place) ⌝ }
 {
     match a {

@@ -1,4 +1,5 @@
 -- `answers::answer::answer_of` meets its contract: the test picks the crate.
+use Prim.Native.Nat.{_%_}
 use borrow.Author.Tests.{le-leb, lt-leb}
 use Rattle.answers.specs.Answers.{answer}
 use Rattle.answers.proofs.answer.answer_of.Statement.{statement}
@@ -21,5 +22,21 @@ answer-of-spec =
     rw (lt-leb n 10 (c .before .before .before .if1 .left), lt-leb n 18 (c .before .before .if2 .left), le-leb n 23 (c .before .if3 .taken)) (c .answer-of3 .ensures))
     (λ c κs. tt)
     (λ c.
-    let n = c .before .before .before .before .args .n in
-    rw (lt-leb n 10 (c .before .before .before .if1 .left), lt-leb n 18 (c .before .before .if2 .left), lt-leb n 23 (c .before .if3 .left)) (c .answer-of4 .ensures)))
+    let n = c .before .before .before .before .before .args .n in
+    let before = c .before .before in
+    rw (
+      lt-leb n 10 (before .before .before .if1 .left),
+      lt-leb n 18 (before .before .if2 .left),
+      lt-leb n 23 (before .if3 .left),
+      le-leb (n % 256) 25 (c .before .if4 .taken),
+    ) (c .answer-of4 .ensures))
+    (λ c κs. tt)
+    (λ c.
+    let n = c .before .before .before .before .before .args .n in
+    let before = c .before .before in
+    rw (
+      lt-leb n 10 (before .before .before .if1 .left),
+      lt-leb n 18 (before .before .if2 .left),
+      lt-leb n 23 (before .if3 .left),
+      lt-leb (n % 256) 25 (c .before .if4 .left),
+    ) (c .answer-of5 .ensures)))

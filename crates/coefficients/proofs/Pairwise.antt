@@ -7,15 +7,8 @@ use native.Mathlib.Nat.{le-of-suc-le-suc, not-suc-le-zero}
 use lib.Dec.{T, eqb, eqb→eq}
 use lib.IntN.{ℤ, pos, negsuc}
 use lib.Ieee.{Float, nan, inf, fin}
+use lib.Ieee.Fits.{and-l, and-r}
 use lib.ListN.{length, getD}
-
-and-left : (a b : Bool) → T (a && b) → T a
-and-left true b t = tt
-and-left false b t = t
-
-and-right : (a b : Bool) → T (a && b) → T b
-and-right true b t = t
-and-right false b t = absurd t
 
 -- ---- every number below n
 
@@ -25,8 +18,8 @@ everyBelow (suc n) f = f 0 && everyBelow n (λ k. f (suc k))
 
 pub each-below : (n : ℕ) (f : ℕ → Bool) → T (everyBelow n f) → (k : ℕ) → k < n → T (f k)
 each-below zero f t k h = absurd (not-suc-le-zero h)
-each-below (suc n) f t zero h = and-left (f 0) (everyBelow n (λ k. f (suc k))) t
-each-below (suc n) f t (suc k) h = each-below n (λ k. f (suc k)) (and-right (f 0) (everyBelow n (λ k. f (suc k))) t) k (le-of-suc-le-suc h)
+each-below (suc n) f t zero h = and-l (f 0) (everyBelow n (λ k. f (suc k))) t
+each-below (suc n) f t (suc k) h = each-below n (λ k. f (suc k)) (and-r (f 0) (everyBelow n (λ k. f (suc k))) t) k (le-of-suc-le-suc h)
 
 -- ---- every place of two lists
 
@@ -39,8 +32,8 @@ pub each-pair : {A B : Type 0} (f : A → B → Bool) (xs : List A) (ys : List B
     → T (f (getD xs k a) (getD ys k b))
 each-pair f [] ys a b t k h = absurd (not-suc-le-zero h)
 each-pair f (x ∷ xs) [] a b t k h = absurd t
-each-pair f (x ∷ xs) (y ∷ ys) a b t zero h = and-left (f x y) (pairwise f xs ys) t
-each-pair f (x ∷ xs) (y ∷ ys) a b t (suc k) h = each-pair f xs ys a b (and-right (f x y) (pairwise f xs ys) t) k (le-of-suc-le-suc h)
+each-pair f (x ∷ xs) (y ∷ ys) a b t zero h = and-l (f x y) (pairwise f xs ys) t
+each-pair f (x ∷ xs) (y ∷ ys) a b t (suc k) h = each-pair f xs ys a b (and-r (f x y) (pairwise f xs ys) t) k (le-of-suc-le-suc h)
 
 -- ---- the same finite float
 
@@ -75,8 +68,8 @@ same-float (inf s) y t = absurd t
 same-float (fin s m e) nan t = absurd t
 same-float (fin s m e) (inf u) t = absurd t
 same-float (fin s m e) (fin u n d) t =
-    let rest = and-right (Bool·beq s u) (eqb m n && sameInt e d) t in
-    let hs : s ≡ u = same-sign s u (and-left (Bool·beq s u) (eqb m n && sameInt e d) t) in
-    let hm : m ≡ n = eqb→eq m n (and-left (eqb m n) (sameInt e d) rest) in
-    let he : e ≡ d = same-int e d (and-right (eqb m n) (sameInt e d) rest) in
+    let rest = and-r (Bool·beq s u) (eqb m n && sameInt e d) t in
+    let hs : s ≡ u = same-sign s u (and-l (Bool·beq s u) (eqb m n && sameInt e d) t) in
+    let hm : m ≡ n = eqb→eq m n (and-l (eqb m n) (sameInt e d) rest) in
+    let he : e ≡ d = same-int e d (and-r (eqb m n) (sameInt e d) rest) in
     cc

@@ -1,5 +1,6 @@
 -- The table is right: three tests that antt computes, two over the whole table and one over s, and the laws that carry them to each entry and each s.
 -- Assumes nothing.
+use mathlib.Core.Path.{_≡_, refl}
 use mathlib.Core.Bool.{Bool}
 use Prim.Native.Nat.{ℕ, _<_}
 use lib.Dec.{T}
@@ -25,12 +26,20 @@ all-nearest = tt
 all-obey : T (everyBelow 11 obeys)
 all-obey = tt
 
-in-table : (i : ℕ) → i < 172 → i < length coefficients
+table-length : length coefficients ≡ 172
 unfolding coefficients
-in-table i h = h
+table-length = refl
+
+fractions-length : length fractions ≡ 172
+unfolding fractions
+fractions-length = refl
+
+in-table : (i : ℕ) → i < 172 → i < length coefficients
+in-table i h = rw table-length h
 
 pub table-right : TableRight
 table-right = record {
+  entries = (table-length, fractions-length);
   close = λ i h. each-pair withinOneUnit coefficients fractions nan (whole 0) all-close i (in-table i h);
   nearest = λ i h. same-float _ _ (each-pair isNearest coefficients fractions nan (whole 0) all-nearest i (in-table i h));
   dlmf = each-below 11 obeys all-obey;

@@ -5,11 +5,12 @@ use mathlib.Core.Bool.{Bool, true, false}
 use Prim.Native.Nat.{ℕ, suc, _*_, _-_, _/_, _^_, _<_}
 use lib.Dec.{T, leb}
 use lib.IntN.{ℤ, pos, negsuc, negℤ, natAbs, _+ℤ_, _*ℤ_}
+use lib.ListN.{length}
 use lib.Ieee.{Float, nan, inf, fin, binary64, prec, low, up, down, size, round}
 use Rattle.floats.specs.Facts.{signedInt}
 use Rattle.coefficients.specs.Fractions.{Fraction, over}
-use Rattle.coefficients.specs.Dlmf.{obeys, fractionAt}
-use Rattle.coefficients.specs.Table.{entry}
+use Rattle.coefficients.specs.Dlmf.{obeys, fractions, fractionAt}
+use Rattle.coefficients.specs.Table.{coefficients, entry}
 
 -- |±n − a / b·2^1074|, times b: n is a float's size in units of 2^−1074
 abbrev pub apart : Bool → ℕ → ℤ → ℕ → ℕ
@@ -29,6 +30,7 @@ nearestTo (over (pos a) b) = round binary64 false a b
 nearestTo (over (negsuc a) b) = round binary64 true (suc a) b
 
 pub record TableRight : Type 0 where
+  pub entries : (length coefficients ≡ 172) × (length fractions ≡ 172)
   pub close : (i : ℕ) → i < 172 → T (withinOneUnit (entry i) (fractionAt i))
   pub nearest : (i : ℕ) → i < 172 → entry i ≡ nearestTo (fractionAt i)
   pub dlmf : (s : ℕ) → s < 11 → T (obeys s)

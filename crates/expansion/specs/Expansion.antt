@@ -4,15 +4,15 @@
 pub mod Open
 pub mod Examples
 use mathlib.Core.Bool.{Bool, _&&_, _||_, cond, not}
-use mathlib.Core.Option.{Option, some, none}
+use mathlib.Core.Option.{Option}
 use Prim.Native.Nat.{ℕ}
-use lib.Dec.{eqb}
 use lib.Ieee.{Float, isNan, lt, le, neg}
 use Rattle.floats.specs.Operations.{_⊕_, _⊖_, _⊗_, _⊘_, f0, f½, f1}
 use Rattle.floats.specs.Functions.{infinite}
 use Rattle.exponential.specs.Exponential.{expM1}
 use Rattle.logarithm.specs.Logarithm.{ln}
 use Rattle.roots.specs.SquareRoot.{squareRoot}
+use Rattle.refusals.specs.Answer.{answerBy}
 use Rattle.coefficients.specs.Polynomials.{uSum, vSum}
 use Rattle.mul_exp.specs.MulExp.{mulExp}
 use Rattle.gamma_ratio.specs.GammaRatio.{lnGammaRatio}
@@ -76,4 +76,4 @@ abbrev pub pairBy : Float × Float × Float → Float × Float
 pairBy m = (mulExp (m .0) (m .2), mulExp (m .1) (m .2))
 
 pub answer : Float → Float → Option (Float × Float)
-answer v x = cond (eqb (refusal v x) 0) (some (pairBy (mantissas v x))) none
+answer v x = answerBy (refusal v x) (pairBy (mantissas v x))

@@ -4,13 +4,13 @@
 pub mod Open
 pub mod Examples
 use mathlib.Core.Bool.{Bool, false, _||_, cond}
-use mathlib.Core.Option.{Option, some, none}
+use mathlib.Core.Option.{Option}
 use Prim.Native.Nat.{ℕ}
-use lib.Dec.{eqb}
 use lib.Ieee.{Float, inf, isNan, lt, le}
 use Rattle.floats.specs.Operations.{_⊕_, _⊖_, _⊗_, _⊘_, whole, f0, f1}
 use Rattle.floats.specs.Functions.{absolute, infinite, lesser, greater}
 use Rattle.floats.specs.Loops.{Turn, countUp}
+use Rattle.refusals.specs.Answer.{answerBy}
 use Rattle.mul_exp.specs.MulExp.{mulExp}
 use Rattle.maclaurin.specs.Constants.{ln2, smallest, tiny, scale, f600, f¼, f2}
 
@@ -63,4 +63,4 @@ pub refusal : Float → Float → Float → Float → Float → ℕ
 refusal a x c0 c1 e = cond (anyInput isNan a x c0 c1 e) 1 (cond (anyInput infinite a x c0 c1 e) 5 0)
 
 pub answer : Float → Float → Float → Float → Float → Option (Float × Float)
-answer a x c0 c1 e = cond (eqb (refusal a x c0 c1 e) 0) (some (pbMaclaurin a x c0 c1 e)) none
+answer a x c0 c1 e = answerBy (refusal a x c0 c1 e) (pbMaclaurin a x c0 c1 e)

@@ -1,12 +1,13 @@
 -- The table calls of D and V (01, "A request comes in" and "Splitting the order"): which requests are refused, what a request answers, and what it leaves
 -- of the table that was lent.
 use mathlib.Core.List.{List}
-use mathlib.Core.Option.{Option, some, none}
+use mathlib.Core.Option.{Option}
 use Prim.Native.Nat.{ℕ, _-_, _*_}
 use mathlib.Core.Bool.{Bool, _||_, cond}
 use lib.Dec.{eqb, ltb}
 use lib.ListN.{length}
 use lib.Ieee.{Float, isNan}
+use Rattle.refusals.specs.Answer.{answerBy}
 use Rattle.order.specs.Order.{tooLarge, below, shifted, fractionOf, topRung, num}
 use Rattle.recurrence.specs.declared.Function.{Function}
 use Rattle.rungs.specs.Branches.{value, derivativeAt}
@@ -44,4 +45,4 @@ tableAfter fn v x l =
 
 -- what the call answers: value and derivative n − 1
 pub answer : Function → Float → Float → ℕ → Option (Float × Float)
-answer fn v x slots = cond (eqb (refusal v x slots) 0) (some (valueOf fn v x (topRung v - 1), derivativeOf fn v x (topRung v - 1))) none
+answer fn v x slots = answerBy (refusal v x slots) (valueOf fn v x (topRung v - 1), derivativeOf fn v x (topRung v - 1))

@@ -1,7 +1,9 @@
 -- `expansion::d_expansion` meets its contract: the refusal's number decides, and an accepted request answers the pair.
-use mathlib.Core.Path.{sym, _∙_}
+use mathlib.Core.Path.{sym, _∙_, ap}
+use mathlib.Core.Option.{some}
 use Rattle.refusals.specs.Answer.{refusalOf, pairOf}
-use Rattle.expansion.specs.Expansion.Open.{no-answer, an-answer}
+use Rattle.refusals.proofs.Laws.{refused, answered}
+use Rattle.expansion.specs.Expansion.Open.{answer-is, pair-is}
 use Rattle.expansion.proofs.d_expansion.Statement.{statement}
 use Rattle.expansion.proofs.d_expansion.Tie as tie
 
@@ -13,11 +15,11 @@ d-expansion-spec =
     (λ c κs. tt)
     (λ c.
     let r = c .before .refusal .ensures in
-    (r, sym (no-answer _ _ _ (c .if1 .taken) r)))
+    (r, rw (answer-is, ← r, refused _ _ (c .if1 .taken))))
     (λ c κs. tt)
     (λ c κs. tt)
     (λ c.
     let m = c .before in
     let t = m .before in
     let r = sym (t .before .refusal .ensures) ∙ t .if1 .left in
-    (sym r, an-answer _ _ _ _ _ _ _ r (m .pbdv-elementary .ensures) (c .mul-exp-both .ensures))))
+    (sym r, rw (answer-is, answered _ _ r) (ap some (pair-is _ _ _ _ _ _ _ (m .pbdv-elementary .ensures) (c .mul-exp-both .ensures))))))

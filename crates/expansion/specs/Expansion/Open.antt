@@ -1,15 +1,14 @@
 -- What the definitions are, case by case. Only this crate's proofs cite these laws.
 use mathlib.Core.Path.{_≡_, refl}
 use mathlib.Core.Bool.{Bool, true, false, not, _&&_, _||_, cond}
-use mathlib.Core.Option.{some, none}
 use Prim.Native.Nat.{ℕ}
 use native.Mathlib.Omega.{arith}
-use borrow.Author.Tests.{ne-eqb}
 use lib.Ieee.{Float, isNan, lt, le, neg}
 use Rattle.floats.specs.Functions.{infinite}
+use Rattle.refusals.specs.Answer.{answerBy}
 use Rattle.mul_exp.specs.MulExp.{mulExp}
 use Rattle.expansion.specs.Constants.{beyond, f20}
-use Rattle.expansion.specs.Expansion.{parameter, clamped, mantissasBy, mantissas, refusal, answer}
+use Rattle.expansion.specs.Expansion.{parameter, clamped, mantissasBy, mantissas, refusal, pairBy, answer}
 
 one-not-zero : _≡_ {A = ℕ} 1 0 → ⊥
 one-not-zero h = omega arith
@@ -54,16 +53,16 @@ module _ (v x : Float) where
   unfolding refusal
   accepted a b c d e = rw (a, b, c, d, e)
 
-  pub no-answer : (number : ℕ) → (number ≡ 0 → ⊥) → number ≡ refusal v x → answer v x ≡ none
+  pub answer-is : answer v x ≡ answerBy (refusal v x) (pairBy (mantissas v x))
   unfolding answer
-  no-answer number h i = rw (← i, ne-eqb number 0 h)
+  answer-is = refl
 
-  pub an-answer : (value derivative exponent first second : Float) → refusal v x ≡ 0
+  -- the pair of an accepted request, from its mantissas
+  pub pair-is : (value derivative exponent first second : Float)
       → (value ≡ mantissas v x .0) × ((derivative ≡ mantissas v x .1) × (exponent ≡ mantissas v x .2))
       → (first ≡ mulExp value exponent) × (second ≡ mulExp derivative exponent)
-      → some (first, second) ≡ answer v x
-  unfolding answer
-  an-answer value derivative exponent first second h (a, (b, c)) (d, e) = rw (h, d, e, a, b, c)
+      → _≡_ {A = Float × Float} (first, second) (pairBy (mantissas v x))
+  pair-is value derivative exponent first second (a, (b, c)) (d, e) = rw (d, e, a, b, c)
 
   pub in-range : refusal v x ≡ 0 → (lt (neg beyond) v ≡ true) × (le v (neg f20) ≡ true)
   unfolding refusal

@@ -1,11 +1,9 @@
 -- What the definitions are, case by case. Only this crate's proofs cite these laws.
-use mathlib.Core.Path.{_≡_}
+use mathlib.Core.Path.{_≡_, refl}
 use mathlib.Core.Bool.{true, false}
-use mathlib.Core.Option.{some, none}
-use Prim.Native.Nat.{ℕ}
-use borrow.Author.Tests.{ne-eqb}
 use lib.Ieee.{Float, isNan, lt}
 use Rattle.floats.specs.Functions.{absolute, infinite}
+use Rattle.refusals.specs.Answer.{answerBy}
 use Rattle.mul_exp.specs.MulExp.{mulExp}
 use Rattle.maclaurin.specs.Constants.{smallest}
 use Rattle.maclaurin.specs.Maclaurin.{series, shortForm, pbMaclaurin, anyInput, refusal, answer}
@@ -31,10 +29,6 @@ module _ (a x c0 c1 e : Float) where
   unfolding refusal
   accepted h i = rw (h, i)
 
-  pub no-answer : (number : ℕ) → (number ≡ 0 → ⊥) → number ≡ refusal a x c0 c1 e → answer a x c0 c1 e ≡ none
+  pub answer-is : answer a x c0 c1 e ≡ answerBy (refusal a x c0 c1 e) (pbMaclaurin a x c0 c1 e)
   unfolding answer
-  no-answer number h i = rw (← i, ne-eqb number 0 h)
-
-  pub an-answer : refusal a x c0 c1 e ≡ 0 → answer a x c0 c1 e ≡ some (pbMaclaurin a x c0 c1 e)
-  unfolding answer
-  an-answer h = rw (h)
+  answer-is = refl

@@ -7,6 +7,7 @@ use mathlib.Core.Bool.{Bool, _||_, cond}
 use lib.Dec.{eqb, ltb}
 use lib.ListN.{length}
 use lib.Ieee.{Float, isNan}
+use Rattle.refusals.specs.Answer.{answerBy}
 use Rattle.order.specs.Order.{tooLarge, below, shifted, fractionOf, topRung, num}
 use Rattle.recurrence.specs.declared.Function.{Function}
 use Rattle.rungs.specs.Branches.{value, derivativeAt}
@@ -42,5 +43,5 @@ module _ (fn : Function) (v x : Float) where
 
   pub answer-is : (slots : ℕ)
       → answer fn v x slots ≡ cond (eqb (refusal v x slots) 0) (some (valueOf fn v x (topRung v - 1), derivativeOf fn v x (topRung v - 1))) none
-  unfolding answer
+  unfolding answer answerBy
   answer-is slots = refl

@@ -1,4 +1,4 @@
-// The expansion, the Maclaurin series and the functions below them.
+// The functions below the expansion and the Maclaurin series.
 
 ghost use mathlib.Core.Path.{_≡_};
 ghost use mathlib.Core.Bool.{not};
@@ -7,10 +7,6 @@ ghost use Rattle.gamma_ratio.specs.GammaRatio.{log1pmx, lgamStirlingCorr, lnGam
 ghost use Rattle.mul_exp.specs.MulExp.{mulExp};
 ghost use Rattle.coefficients.specs.Polynomials.{uvPoly, uSum, vSum};
 ghost use Rattle.expansion.specs.Expansion as expanded;
-ghost use Rattle.maclaurin.specs.Maclaurin as maclaurin;
-ghost use Rattle.compared.specs.Answers.{pairOrNan};
-use crate::table_calls::ComparedAnswer;
-use crate::table_calls::flat;
 
 // The sums of u_s and of v_s.
 #[repr(C)]
@@ -87,20 +83,4 @@ pub extern "C" fn compared_pbdv_elementary(v: f64, x: f64) -> ComparedMantissas
         derivative: m.derivative,
         exponent: m.exponent,
     }
-}
-
-#[no_mangle]
-pub extern "C" fn compared_d_expansion(v: f64, x: f64) -> ComparedAnswer
-    ensures number { λ r. ⌜ r .refusal ≡ expanded.refusal v x ⌝ }
-    ensures pair { λ r. ⌜ (r .value, r .derivative) ≡ pairOrNan (expanded.answer v x) ⌝ }
-{
-    flat(expansion::d_expansion(v, x))
-}
-
-#[no_mangle]
-pub extern "C" fn compared_maclaurin(a: f64, x: f64, c0: f64, c1: f64, e: f64) -> ComparedAnswer
-    ensures number { λ r. ⌜ r .refusal ≡ maclaurin.refusal a x c0 c1 e ⌝ }
-    ensures pair { λ r. ⌜ (r .value, r .derivative) ≡ pairOrNan (maclaurin.answer a x c0 c1 e) ⌝ }
-{
-    flat(maclaurin::maclaurin(a, x, c0, c1, e))
 }

@@ -1,8 +1,6 @@
-// The functions that compare/ holds to the Rust, each under a C name of its own. Each only calls the function that it is named after.
+// The functions below the C interface that compare/ holds to the Rust, each under a C name of its own. Each only calls the function that it is named after.
 
 mod expansion_calls;
-mod ladder_calls;
-mod table_calls;
 
 ghost use mathlib.Core.Path.{_≡_};
 ghost use lib.Ieee.{isNan, toSigned};

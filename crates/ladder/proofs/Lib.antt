@@ -1,3 +1,4 @@
 pub mod Climbs
 pub mod Starts
 pub mod Outcomes
+pub mod Refusals

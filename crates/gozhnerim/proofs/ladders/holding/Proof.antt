@@ -1,0 +1,9 @@
+-- `gozhnerim::ladders::holding` meets its contract: field by field.
+use borrow.Author.Needs.{needs}
+use Rattle.gozhnerim.specs.Ladders.{ladderBy}
+use Rattle.gozhnerim.proofs.ladders.holding.Statement.{statement}
+use Rattle.gozhnerim.proofs.ladders.holding.Tie as tie
+
+pub holding-spec : {M : Type 1} → statement M
+unfolding ladderBy
+holding-spec = tie.close (tie.spec (λ c. search needs))

@@ -1,0 +1,4 @@
+pub mod Answers
+pub mod Columns
+pub mod Ladders
+pub mod Lists

@@ -1,0 +1,27 @@
+// The column reader. An exported function cannot hand a slice back: it gives the length of the part, which begins at the first slot of the table named.
+
+ghost use mathlib.Core.Path.{_≡_};
+ghost use lib.ListN.{length};
+ghost use Rattle.gozhnerim.specs.Columns.{columnIn};
+use ladder::Column;
+
+// Which is 1 for the values and 2 for the derivatives; any other number names neither, and its part is empty.
+#[no_mangle]
+pub extern "C" fn gozhnerim_column<'a>(
+    values: &'a [f64],
+    derivatives: &'a [f64],
+    which: u32,
+    c: usize,
+) -> usize
+    ensures { λ r. ⌜ r ≡ length (columnIn which c (now (values .entry)) (now (derivatives .entry))) ⌝ }
+{
+    if which == 1 {
+        let part = ladder::read_column(values, derivatives, Column::Values, c);
+        return part.len();
+    }
+    if which == 2 {
+        let part = ladder::read_column(values, derivatives, Column::Derivatives, c);
+        return part.len();
+    }
+    0
+}

@@ -1,4 +1,4 @@
-# What run, store and bench have in common: the arguments, the library and the driver.
+# What run, soak, store and bench have in common: the arguments, the libraries and the driver.
 # Sourced with the script's own arguments.
 
 root=$(cd "$(dirname "${BASH_SOURCE[0]}")/.." && pwd)
@@ -14,13 +14,19 @@ if [ $# -lt 1 ] || [ ! -f "$1/xsf/par_cyl.rs" ]; then
 fi
 GOZHNERIM_SOURCE=$(cd "$1" && pwd)
 
-if [ -z "${GOZHNERIM_LIBRARY:-}" ]; then
-    (cd "$root" && rt staticlib compared)
-    GOZHNERIM_LIBRARY=$root/target/staticlib/libcompared.a
-fi
-GOZHNERIM_LIBRARY=$(realpath "$GOZHNERIM_LIBRARY")
+# Builds the static library of a crate, unless its path is given.
+library() {
+    if [ -n "$2" ]; then
+        realpath "$2"
+    else
+        (cd "$root" && rt staticlib "$1") >&2
+        echo "$root/target/staticlib/lib$1.a"
+    fi
+}
+GOZHNERIM_LIBRARY=$(library gozhnerim "${GOZHNERIM_LIBRARY:-}")
+GOZHNERIM_KERNELS=$(library compared "${GOZHNERIM_KERNELS:-}")
 
-export GOZHNERIM_SOURCE GOZHNERIM_LIBRARY
+export GOZHNERIM_SOURCE GOZHNERIM_LIBRARY GOZHNERIM_KERNELS
 export CARGO_TARGET_DIR=$root/target/compare
 
 # Builds the driver and runs it with the arguments given.

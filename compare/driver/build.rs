@@ -1,17 +1,27 @@
-//! Links the library that is compared.
+//! Links the two static libraries that are compared.
 
 use std::env;
 use std::path::Path;
 
-/// The environment variable that names the static library, a file like `libcompared.a`.
-const LIBRARY: &str = "GOZHNERIM_LIBRARY";
+/// The environment variables that name the static libraries: the C interface, and the functions
+/// below it.
+const LIBRARIES: [(&str, &str); 2] = [
+    ("GOZHNERIM_LIBRARY", "libgozhnerim.a"),
+    ("GOZHNERIM_KERNELS", "libcompared.a"),
+];
 
 fn main() {
-    println!("cargo::rerun-if-env-changed={LIBRARY}");
-    let library = env::var(LIBRARY)
-        .unwrap_or_else(|_| panic!("{LIBRARY} is not set: the path of libcompared.a"));
+    for (variable, example) in LIBRARIES {
+        link(variable, example);
+    }
+}
+
+fn link(variable: &str, example: &str) {
+    println!("cargo::rerun-if-env-changed={variable}");
+    let library = env::var(variable)
+        .unwrap_or_else(|_| panic!("{variable} is not set: the path of {example}"));
     let path = Path::new(&library);
-    assert!(path.is_file(), "{LIBRARY}: no file {library}");
+    assert!(path.is_file(), "{variable}: no file {library}");
     println!("cargo::rerun-if-changed={library}");
     let folder = path.parent().expect("a file lies in a folder");
     let name = path.file_name().expect("a file has a name");

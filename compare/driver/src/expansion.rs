@@ -27,8 +27,8 @@ mod library {
         pub fn compared_uv_poly(p: *const f64, len: usize, s: u32, t: f64, bar: u32) -> f64;
         pub safe fn compared_uv_sums(t: f64, w: f64) -> Numbers<2>;
         pub safe fn compared_pbdv_elementary(v: f64, x: f64) -> Numbers<3>;
-        pub safe fn compared_d_expansion(v: f64, x: f64) -> Answer;
-        pub safe fn compared_maclaurin(a: f64, x: f64, c0: f64, c1: f64, e: f64) -> Answer;
+        pub safe fn gozhnerim_d_expansion(v: f64, x: f64) -> Answer;
+        pub safe fn gozhnerim_maclaurin(a: f64, x: f64, c0: f64, c1: f64, e: f64) -> Answer;
     }
 }
 

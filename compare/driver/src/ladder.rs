@@ -1,5 +1,6 @@
 //! The library crate `ladder`: requests that are given a state and hand the next one back.
 
+mod comparison;
 mod drawn;
 mod edges;
 mod handed_in;
@@ -12,10 +13,9 @@ mod state;
 #[cfg(test)]
 mod tests;
 
-use crate::comparing::{Line, Tally};
+use crate::comparing::Tally;
 use crate::tables::{Kind, Lent};
-use lists::List;
-use machine::Case;
+use comparison::Comparison;
 pub use state::State;
 
 /// The library's calls.
@@ -23,7 +23,7 @@ mod library {
     use super::{Reply, State};
 
     unsafe extern "C" {
-        pub fn compared_ladder_d(
+        pub fn gozhnerim_ladder_d(
             held: State,
             v: f64,
             x: f64,
@@ -32,7 +32,7 @@ mod library {
             derivatives: *mut f64,
             derivatives_len: usize,
         ) -> Reply;
-        pub fn compared_ladder_v(
+        pub fn gozhnerim_ladder_v(
             held: State,
             v: f64,
             x: f64,
@@ -46,8 +46,8 @@ mod library {
 
 /// How many calls there are: those of D and V.
 pub const CALLS: usize = 2;
-/// Of so many requests one belongs to a state handed in from elsewhere.
-const HANDED_IN: usize = 3;
+/// For so many requests in lists from an empty ladder there is one state handed in.
+const REQUESTS_FOR_A_STATE: usize = 5;
 
 /// The state handed back, and the answer with the written count, which is 0 with a refusal.
 #[repr(C)]
@@ -71,8 +71,8 @@ pub struct Point {
 /// Asks the library's ladder, with value table and derivative table.
 pub fn ask(held: State, point: &Point, [values, derivatives]: [&mut Lent; 2]) -> Reply {
     let call = match point.kind {
-        Kind::D => library::compared_ladder_d,
-        Kind::V => library::compared_ladder_v,
+        Kind::D => library::gozhnerim_ladder_d,
+        Kind::V => library::gozhnerim_ladder_v,
     };
     let (values_len, derivatives_len) = (values.length, derivatives.length);
     let (values, derivatives) = (values.first_slot(), derivatives.first_slot());
@@ -90,35 +90,14 @@ pub fn ask(held: State, point: &Point, [values, derivatives]: [&mut Lent; 2]) ->
     }
 }
 
-/// Compares the library's ladder with the scope paper's over `count` requests.
+/// Compares the library's ladder with the scope paper's over `count` requests in lists from an empty
+/// ladder, and over lists from states handed in.
 pub fn compare(tally: &mut Tally, count: usize, seed: u64) {
-    let handed_in = count / HANDED_IN;
-    let lists = lists::from_empty(count - handed_in, seed);
-    compare_lists(tally, "ladder from empty", lists);
-    let lists = lists::from_elsewhere(handed_in, seed);
-    compare_lists(tally, "ladder from handed-in states", lists);
-}
-
-/// Prints the line of the requests, how many were of each case, and after how many lists the rungs
-/// were compared.
-fn compare_lists(tally: &mut Tally, name: &str, lists: impl Iterator<Item = List>) {
-    let mut line = Line::new(name);
-    let mut cases = [0; Case::NAMES.len()];
-    let (mut all, mut with_rungs) = (0, 0);
-    for list in lists {
-        all += 1;
-        let has_rungs = running::run(&list, ask, |i, case, difference| {
-            cases[case.number()] += 1;
-            line.count(difference.map(|(request, sides)| {
-                let place = format!("list {all}, request {}", i + 1);
-                (format!("{place}: {request}"), sides)
-            }));
-        });
-        with_rungs += usize::from(has_rungs);
-    }
-    tally.add(&line);
-    let cases = Case::NAMES.iter().zip(cases);
-    let cases: Vec<_> = cases.map(|(name, many)| format!("{many} {name}")).collect();
-    println!("  {}", cases.join(", "));
-    println!("  {all} lists, rungs compared after {with_rungs}");
+    let mut from_empty = Comparison::from_empty();
+    from_empty.run(lists::from_empty(count, seed));
+    from_empty.finish(tally);
+    let mut from_elsewhere = Comparison::from_elsewhere();
+    let states = count.div_ceil(REQUESTS_FOR_A_STATE);
+    from_elsewhere.run(lists::from_elsewhere(states, seed));
+    from_elsewhere.finish(tally);
 }

@@ -21,8 +21,8 @@ mod library {
     use super::Answer;
 
     unsafe extern "C" {
-        pub fn compared_d_table(v: f64, x: f64, table: *mut f64, len: usize) -> Answer;
-        pub fn compared_v_table(v: f64, x: f64, table: *mut f64, len: usize) -> Answer;
+        pub fn gozhnerim_d_table(v: f64, x: f64, table: *mut f64, len: usize) -> Answer;
+        pub fn gozhnerim_v_table(v: f64, x: f64, table: *mut f64, len: usize) -> Answer;
     }
 }
 
@@ -73,7 +73,7 @@ pub const CALLS: [Call; 2] = [
         kind: Kind::D,
         number: 24,
         name: "d_table",
-        library: library::compared_d_table,
+        library: library::gozhnerim_d_table,
         reference: reference::pbdv_impl,
         points: &[
             (100.3, 2.0),
@@ -87,7 +87,7 @@ pub const CALLS: [Call; 2] = [
         kind: Kind::V,
         number: 25,
         name: "v_table",
-        library: library::compared_v_table,
+        library: library::gozhnerim_v_table,
         reference: reference::pbvv_impl,
         points: &[(50.3, 5.0), (50.3, 20.0), (-50.3, 3.0), (-900.0, 1.0)],
     },

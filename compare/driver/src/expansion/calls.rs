@@ -112,7 +112,7 @@ pub const D_EXPANSION: Call<[f64; 2], Answer> = Call {
     number: 32,
     name: "d_expansion",
     sides: Pair {
-        library: |[v, x]| library::compared_d_expansion(v, x),
+        library: |[v, x]| library::gozhnerim_d_expansion(v, x),
         reference: reference::d_expansion,
     },
     timed: reference::d_pair,
@@ -126,7 +126,7 @@ pub const MACLAURIN: Call<[f64; 5], Answer> = Call {
     number: 33,
     name: "maclaurin",
     sides: Pair {
-        library: |[a, x, c0, c1, e]| library::compared_maclaurin(a, x, c0, c1, e),
+        library: |[a, x, c0, c1, e]| library::gozhnerim_maclaurin(a, x, c0, c1, e),
         reference: reference::maclaurin,
     },
     timed: reference::maclaurin_pair,

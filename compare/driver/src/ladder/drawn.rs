@@ -113,11 +113,14 @@ impl<'a> Walk<'a> {
             2 => Lending::Other,
             _ => Lending::Kept,
         };
+        let junk = Junk(self.draw.bits());
+        let lengths = self.lengths;
         Request {
             point,
-            lengths: self.lengths,
+            lengths,
+            nulls: lengths.map(|length| length == 0 && junk.0 >> 63 == 1),
             lending,
-            junk: Junk(self.draw.bits()),
+            junk,
         }
     }
 

@@ -69,6 +69,7 @@ pub fn list(draw: &mut Draw, state: State, points: &[Point]) -> List {
     let request = |&point: &Point| Request {
         point,
         lengths: point.needed().map(|needed| needed + extra),
+        nulls: [false; 2],
         lending,
         junk: Junk(draw.bits()),
     };
@@ -80,17 +81,28 @@ pub fn list(draw: &mut Draw, state: State, points: &[Point]) -> List {
     List { state, requests }
 }
 
-/// The request with one thing changed so that it is refused, or none.
+/// The request with one thing changed so that it is refused, or none. Some have empty tables as
+/// well, half of these by null pointers.
 fn refused(draw: &mut Draw, mut request: Request) -> Option<Request> {
     let [values, derivatives] = request.point.needed();
-    match draw.below(14) {
+    match draw.below(16) {
         0 => request.point.v = f64::NAN,
         1 => request.point.x = f64::NAN,
         2..4 => request.point.v = REFUSED[draw.below(REFUSED.len())],
         4 => request.lengths = [values - 1, derivatives],
         5 => request.lengths = [values, derivatives - 1],
         6 => request.lengths = [draw.below(values), draw.below(derivatives)],
+        7 => request.lengths[draw.below(2)] = 0,
+        8 => request.lengths = [0, 0],
         _ => return None,
+    }
+    match draw.below(8) {
+        0 => request.lengths[draw.below(2)] = 0,
+        1 => request.lengths = [0, 0],
+        _ => {}
+    }
+    if draw.below(2) == 0 {
+        request.nulls = request.lengths.map(|length| length == 0);
     }
     Some(request)
 }

@@ -27,6 +27,8 @@ pub struct Request {
     pub point: Point,
     /// Of value table and derivative table.
     pub lengths: [usize; 2],
+    /// Whether a table is a null pointer. Its length is then 0.
+    pub nulls: [bool; 2],
     pub lending: Lending,
     /// For the slots that are overwritten or new.
     pub junk: Junk,
@@ -52,7 +54,11 @@ impl Request {
     /// With the state that it is given.
     pub fn show(&self, held: &State) -> String {
         let Point { kind, v, x } = self.point;
-        let [values, derivatives] = self.lengths;
+        let length = |i: usize| {
+            let null = if self.nulls[i] { " (null pointer)" } else { "" };
+            format!("{}{null}", self.lengths[i])
+        };
+        let [values, derivatives] = [0, 1].map(length);
         let asked = format!("{kind:?}, v {}, x {}", v.show(), x.show());
         let lending = self.lending;
         let tables = format!("tables {lending:?}, lengths {values} and {derivatives}");
@@ -62,19 +68,28 @@ impl Request {
 
 /// Lists from an empty ladder with `count` requests in all: edge lists, then drawn ones.
 pub fn from_empty(count: usize, seed: u64) -> impl Iterator<Item = List> {
-    let drawn = drawn::lists(seed ^ FROM_EMPTY);
+    let drawn = drawn_from_empty(seed);
     cut(edges::lists().into_iter().chain(drawn), count)
 }
 
-/// Lists from states handed in from elsewhere with `count` requests in all: edge lists, then drawn
-/// ones.
-pub fn from_elsewhere(count: usize, seed: u64) -> impl Iterator<Item = List> {
-    let drawn = handed_in::drawn(seed ^ FROM_ELSEWHERE);
-    cut(handed_in::edges().into_iter().chain(drawn), count)
+/// Lists from `states` states handed in from elsewhere: edge lists, then drawn ones.
+pub fn from_elsewhere(states: usize, seed: u64) -> impl Iterator<Item = List> {
+    let edges = handed_in::edges().into_iter();
+    edges.chain(drawn_from_elsewhere(seed)).take(states)
+}
+
+/// Drawn lists from an empty ladder, without end.
+pub fn drawn_from_empty(seed: u64) -> impl Iterator<Item = List> {
+    drawn::lists(seed ^ FROM_EMPTY)
+}
+
+/// Drawn lists from states handed in from elsewhere, without end.
+pub fn drawn_from_elsewhere(seed: u64) -> impl Iterator<Item = List> {
+    handed_in::drawn(seed ^ FROM_ELSEWHERE)
 }
 
 /// The first lists, the last one cut so that there are `count` requests in all.
-fn cut(lists: impl Iterator<Item = List>, count: usize) -> impl Iterator<Item = List> {
+pub fn cut(lists: impl Iterator<Item = List>, count: usize) -> impl Iterator<Item = List> {
     let mut left = count;
     lists.map_while(move |mut list| {
         list.requests.truncate(left);

@@ -115,28 +115,24 @@ impl Case {
 }
 
 impl Machine {
-    /// Begun with the fields of a state, its two values left out. A function other than D and V is
-    /// not given.
+    /// Begun with the fields of a state, its two values left out.
     pub fn of(state: &State) -> Self {
         let counts_as_empty = state.n == 0
             || state.n > LARGEST as u32
             || state.x.is_nan()
             || state.f.is_nan()
             || state.f.abs() >= 1.0;
-        let kind = if state.function == Kind::D as u32 {
-            Kind::D
-        } else {
-            Kind::V
-        };
-        let record = Record {
+        let is_of = |kind: &Kind| *kind as u32 == state.function;
+        let kind = Kind::BOTH.into_iter().find(is_of);
+        let record = |kind| Record {
             kind,
-            below_zero: state.below_zero == 1,
+            below_zero: state.below_zero != 0,
             x: state.x.to_bits(),
             f: state.f.to_bits(),
             n: state.n as usize,
         };
         Machine {
-            held: (!counts_as_empty).then_some(record),
+            held: kind.filter(|_| !counts_as_empty).map(record),
         }
     }
 

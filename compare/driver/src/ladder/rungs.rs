@@ -98,6 +98,7 @@ impl Branch {
             function: self.kind as u32,
             below_zero: u32::from(self.below_zero),
             n: n as u32,
+            reserved: [0; 3],
             x: self.x,
             f: self.f,
             value_below,

@@ -93,6 +93,7 @@ impl Run {
         let needed = request.point.needed();
         for i in [0, 1] {
             self.tables[i].lend(lengths[i], needed[i], Junk(junk.0 ^ ((i as u64) << 32)));
+            self.tables[i].is_null = request.nulls[i];
         }
         lending == Lending::Kept && lengths[0] >= before[0] && lengths[1] >= before[1]
     }

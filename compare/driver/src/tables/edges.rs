@@ -12,15 +12,23 @@ const FEW: usize = 5;
 const MANY: usize = 300;
 
 /// Each edge order with each edge argument, twice: with a table that is just long enough, and with
-/// one of the other lengths in turn.
+/// one of the other lengths in turn. A table of length 0 is lent by a null pointer as well.
 pub fn requests() -> Vec<Request> {
     let pairs = pairs(&orders(), &arguments());
     let mut requests = vec![];
     for (i, (v, x)) in pairs.into_iter().chain(squares_at_orders()).enumerate() {
         let others = other_lengths(v);
-        for length in [needed(v), others[i % others.len()]] {
-            let junk = Junk(mixed(requests.len() as u64));
-            requests.push(Request { v, x, length, junk });
+        let other = others[i % others.len()];
+        let null = (other == 0).then_some((0, true));
+        let lent = [(needed(v), false), (other, false)];
+        for (length, is_null) in lent.into_iter().chain(null) {
+            requests.push(Request {
+                v,
+                x,
+                length,
+                is_null,
+                junk: Junk(mixed(requests.len() as u64)),
+            });
         }
     }
     requests

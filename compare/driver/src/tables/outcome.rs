@@ -1,5 +1,7 @@
 //! What a table call must answer and leave in the table, and where the library's does not.
 
+use std::ptr;
+
 use source::entry::alloc_buf;
 
 use super::requests::{Junk, Request};
@@ -15,6 +17,8 @@ pub const MARGIN: usize = 8;
 pub struct Lent {
     pub slots: Vec<f64>,
     pub length: usize,
+    /// Whether the call is given a null pointer. The length is then 0.
+    pub is_null: bool,
 }
 
 impl Lent {
@@ -29,6 +33,9 @@ impl Lent {
 
     /// The table's first slot, for a call that may go beyond the table.
     pub fn first_slot(&mut self) -> *mut f64 {
+        if self.is_null {
+            return ptr::null_mut();
+        }
         self.slots.as_mut_ptr().wrapping_add(MARGIN)
     }
 }
@@ -73,6 +80,7 @@ impl Call {
     ) -> Option<Difference> {
         let mut found = Lent::default();
         found.lend(request.length, needed(request.v), request.junk);
+        found.is_null = request.is_null;
         let mut left = found.clone();
         let answer = library(request.v, request.x, &mut left);
         let expected = self.expected(request.v, request.x, request.length);

@@ -11,13 +11,16 @@ pub struct Request {
     pub v: f64,
     pub x: f64,
     pub length: usize,
+    /// Whether the table is a null pointer. The length is then 0.
+    pub is_null: bool,
     pub junk: Junk,
 }
 
 impl Request {
     pub fn show(&self) -> String {
         let Request { v, x, length, .. } = self;
-        format!("v {}, x {}, length {length}", v.show(), x.show())
+        let null = if self.is_null { ", null pointer" } else { "" };
+        format!("v {}, x {}, length {length}{null}", v.show(), x.show())
     }
 }
 
@@ -58,11 +61,14 @@ pub fn drawn(seed: u64) -> impl Iterator<Item = Request> {
     let (orders, arguments) = (edges::orders(), edges::arguments());
     std::iter::repeat_with(move || {
         let v = order(&mut draw, &orders);
+        let x = argument(&mut draw, &arguments, v);
+        let (length, junk) = (length(&mut draw, v), Junk(draw.bits()));
         Request {
             v,
-            x: argument(&mut draw, &arguments, v),
-            length: length(&mut draw, v),
-            junk: Junk(draw.bits()),
+            x,
+            length,
+            is_null: length == 0 && junk.0 >> 63 == 1,
+            junk,
         }
     })
 }

@@ -16,6 +16,7 @@ const HELD: State = State {
     function: V as u32,
     below_zero: 1,
     n: 4,
+    reserved: [7, u32::MAX, 1],
     x: 1.0,
     f: -0.5,
     value_below: f64::NAN,
@@ -176,6 +177,12 @@ fn states_that_count_as_empty() {
         x: f64::NAN,
         ..HELD
     }));
+    for function in [0, 3, 7, 1 << 31, u32::MAX] {
+        assert!(is_empty(State { function, ..HELD }));
+    }
+    for below_zero in [0, 2, u32::MAX] {
+        assert!(!is_empty(State { below_zero, ..HELD }));
+    }
     assert!(is_empty(State::EMPTY));
 }
 
@@ -189,6 +196,10 @@ fn a_handed_in_state_begins_the_machine() {
     let others = [
         State {
             function: D as u32,
+            ..HELD
+        },
+        State {
+            function: 7,
             ..HELD
         },
         State {
@@ -212,6 +223,10 @@ fn a_handed_in_state_begins_the_machine() {
             [StartOver; 2],
             "{state:?}"
         );
+    }
+    for below_zero in [2, u32::MAX] {
+        let state = State { below_zero, ..HELD };
+        assert_eq!([-3.5, -5.5].map(|v| case(state, v)), [Repeat, Climb(4)]);
     }
     let whole = State { f: -0.0, ..HELD };
     assert_eq!(case(whole, -3.0), StartOver);

@@ -37,6 +37,18 @@ pub enum Fault {
     AnswersARefusal,
     HoldsAMalformedState,
     CutsNToSixteenBits,
+    /// An accepted request hands back what was in `reserved`.
+    KeepsReserved,
+    ClearsReservedOnARefusal,
+    /// A state with anything in `reserved` counts as empty.
+    TakesReservedForEmpty,
+    TakesOtherFunctionsAsV,
+    ClearsOtherFunctionsOnARefusal,
+    /// A below_zero above 1 counts as 0.
+    TakesBelowZeroTwoAsNoSide,
+    /// A repeat hands back the below_zero given.
+    KeepsBelowZero,
+    CutsBelowZeroOnARefusal,
     KeepsTheOldTop,
     WritesBeyondTheDerivatives,
 }
@@ -108,6 +120,15 @@ impl Call<'_> {
         if self.has(Fault::QuietsANanOnARefusal) {
             state.value_top += 0.0;
         }
+        if self.has(Fault::ClearsReservedOnARefusal) {
+            state.reserved = [0; 3];
+        }
+        if self.has(Fault::ClearsOtherFunctionsOnARefusal) && state.function > 2 {
+            state.function = 0;
+        }
+        if self.has(Fault::CutsBelowZeroOnARefusal) {
+            state.below_zero = state.below_zero.min(1);
+        }
         let is_answered = self.has(Fault::AnswersARefusal);
         Reply {
             state,
@@ -130,10 +151,18 @@ impl Call<'_> {
 
     fn has_same_function_side_and_x(&self) -> bool {
         let Call { held, point, .. } = self;
-        let kind = held.function == point.kind as u32 || self.has(Fault::LeavesTheFunctionOut);
-        let side = (held.below_zero == 1) == (point.v < 0.0) || self.has(Fault::LeavesTheSideOut);
+        let mut function = held.function;
+        if self.has(Fault::TakesOtherFunctionsAsV) && function != Kind::D as u32 {
+            function = Kind::V as u32;
+        }
+        let kind = function == point.kind as u32 || self.has(Fault::LeavesTheFunctionOut);
+        let is_below = held.below_zero == 1
+            || (held.below_zero > 1 && !self.has(Fault::TakesBelowZeroTwoAsNoSide));
+        let side = is_below == (point.v < 0.0) || self.has(Fault::LeavesTheSideOut);
         let x = equal([held.x, point.x], self.has(Fault::ComparesXByValue));
-        kind && side && x && !self.has(Fault::StartsOverEachTime)
+        let is_empty = self.has(Fault::StartsOverEachTime)
+            || (self.has(Fault::TakesReservedForEmpty) && held.reserved != [0; 3]);
+        kind && side && x && !is_empty
     }
 
     fn has_same_f(&self) -> bool {
@@ -181,8 +210,15 @@ impl Call<'_> {
 
     fn reply(&self, written: usize, top: [f64; 2], derivative: f64) -> Reply {
         let is_one = self.has(Fault::CountsOneForAll);
+        let mut state = Branch::of(&self.point).state(self.split.n, top);
+        if self.has(Fault::KeepsReserved) {
+            state.reserved = self.held.reserved;
+        }
+        if self.has(Fault::KeepsBelowZero) && written == 0 {
+            state.below_zero = self.held.below_zero;
+        }
         Reply {
-            state: Branch::of(&self.point).state(self.split.n, top),
+            state,
             refusal: 0,
             written: if is_one { 1 } else { written as u32 },
             value: top[0],

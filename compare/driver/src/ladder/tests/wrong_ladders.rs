@@ -2,7 +2,7 @@
 
 use super::right_ladder::Fault::{self, *};
 use super::right_ladder::ladder;
-use super::{COUNT, SEED, list, point};
+use super::{COUNT, SEED, STATES, list, point};
 use crate::ladder::lists::{List, from_elsewhere, from_empty};
 use crate::ladder::running::run;
 use crate::ladder::{Point, State};
@@ -20,6 +20,7 @@ const HELD: State = State {
     function: D as u32,
     below_zero: 0,
     n: 3,
+    reserved: [0, 7, u32::MAX],
     x: 1.0,
     f: 0.0,
     value_below: 1.5,
@@ -31,7 +32,7 @@ const HELD: State = State {
 type Row = (Fault, State, &'static [(Kind, f64, f64)], &'static str);
 
 #[rustfmt::skip]
-const ROWS: [Row; 30] = [
+const ROWS: [Row; 41] = [
     (StartsOverEachTime, State::EMPTY, &[(D, 2.0, 1.0), (D, 3.0, 1.0)], "written: library 5, Rust 1"),
     (StartsOverEachTime, State::EMPTY, &[(D, 2.0, 1.0), (D, 2.0, 1.0)], "written: library 4, Rust 0"),
     (StartsOverInSecret, State { value_top: 2.5, ..HELD }, &[(D, 5.0, 1.0)], "value: library"),
@@ -58,6 +59,17 @@ const ROWS: [Row; 30] = [
     (HoldsAMalformedState, State { n: 0, ..HELD }, &[(D, 2.0, 1.0)], "written: library 3, Rust 4"),
     (CutsNToSixteenBits, State { n: 3 + (1 << 16), ..HELD }, &[(D, 2.0, 1.0)], "written: library 0, Rust 4"),
     (CutsNToSixteenBits, State { n: 1 << 16, ..HELD }, &[(D, 1000.0, 1.0)], "state: library"),
+    (KeepsReserved, HELD, &[(D, 2.0, 1.0)], "state's reserved[1]: library 7, Rust 0"),
+    (KeepsReserved, HELD, &[(V, 2.0, 1.0)], "state's reserved[1]: library 7, Rust 0"),
+    (ClearsReservedOnARefusal, HELD, &[(D, 1000.0, 1.0)], "state: library"),
+    (TakesReservedForEmpty, HELD, &[(D, 2.0, 1.0)], "written: library 4, Rust 0"),
+    (TakesOtherFunctionsAsV, State { function: 7, ..HELD }, &[(V, 2.0, 1.0)], "written: library 0, Rust 4"),
+    (TakesOtherFunctionsAsV, State { function: 0, ..HELD }, &[(V, 2.0, 1.0)], "written: library 0, Rust 4"),
+    (ClearsOtherFunctionsOnARefusal, State { function: 7, ..HELD }, &[(D, 1000.0, 1.0)], "state: library"),
+    (TakesBelowZeroTwoAsNoSide, State { below_zero: 2, ..HELD }, &[(D, -2.0, 1.0)], "written: library 4, Rust 0"),
+    (TakesBelowZeroTwoAsNoSide, State { below_zero: 2, ..HELD }, &[(D, 2.0, 1.0)], "written: library 0, Rust 4"),
+    (KeepsBelowZero, State { below_zero: 5, ..HELD }, &[(D, -2.0, 1.0)], "state's below_zero: library 5, Rust 1"),
+    (CutsBelowZeroOnARefusal, State { below_zero: 5, ..HELD }, &[(D, 1000.0, 1.0)], "state: library"),
     (KeepsTheOldTop, State::EMPTY, &[(D, 2.0, 2.0), (D, 3.0, 2.0)], "state's value_top: library"),
     (WritesBeyondTheDerivatives, State::EMPTY, &[(D, 2.0, 1.0)], "derivative slot 3: library 0.0"),
     (TakesNSlotsForValues, State::EMPTY, &[(D, 2.0, 1.0)], "refusal: library 0, Rust 3"),
@@ -104,7 +116,7 @@ fn many(fault: Option<Fault>, lists: &[List]) -> usize {
 
 #[test]
 fn the_lists_show_wrong_ladders_and_no_right_one() {
-    let lists = from_empty(COUNT, SEED).chain(from_elsewhere(COUNT, SEED));
+    let lists = from_empty(COUNT, SEED).chain(from_elsewhere(STATES, SEED));
     let lists: Vec<List> = lists.step_by(STEP).collect();
     assert_eq!(many(None, &lists), 0);
     let mut faults = ROWS.map(|(fault, ..)| fault).to_vec();

@@ -16,6 +16,7 @@ struct Made<'a> {
     found: &'a [f64],
     left: &'a mut [f64],
     length: usize,
+    is_null: bool,
 }
 
 impl Made<'_> {
@@ -56,6 +57,7 @@ fn called(call: &Call, v: f64, x: f64, lent: &mut Lent, change: Change) -> Answe
         found: &found,
         left: &mut lent.slots,
         length: lent.length,
+        is_null: lent.is_null,
     };
     if refusal == 3 && lent.length >= needed(v) {
         made.fill();
@@ -67,7 +69,7 @@ fn called(call: &Call, v: f64, x: f64, lent: &mut Lent, change: Change) -> Answe
 /// A change, a request at which the call is then wrong, and how the difference begins.
 type Row = (Change, &'static Call, (f64, f64, usize), &'static str);
 
-const ROWS: [Row; 14] = [
+const ROWS: [Row; 15] = [
     (
         derivatives_from_n_plus_1,
         D,
@@ -117,6 +119,12 @@ const ROWS: [Row; 14] = [
         "refusal: library 0, Rust 3",
     ),
     (value_of_slot_n, V, (-0.5, 1.0, 6), "value: library"),
+    (
+        refusal_3_for_null,
+        D,
+        (1000.0, f64::NAN, 0),
+        "refusal: library 3, Rust 1",
+    ),
 ];
 
 fn derivatives_from_n_plus_1(made: &mut Made) {
@@ -198,6 +206,13 @@ fn value_of_slot_n(made: &mut Made) {
     }
 }
 
+/// A null pointer is refused before the numbers are tested.
+fn refusal_3_for_null(made: &mut Made) {
+    if made.is_null {
+        made.answer.refusal = 3;
+    }
+}
+
 fn no_change(_: &mut Made) {}
 
 /// The difference where the last slot that the order needs is a NaN that is not quiet.
@@ -207,7 +222,14 @@ fn difference(change: Change, call: &Call, (v, x, length): (f64, f64, usize)) ->
         last.is_nan() && last.to_bits() & (1 << 51) == 0
     };
     let junk = (1..).map(Junk).find(is_nan).expect("there is such junk");
-    let request = Request { v, x, length, junk };
+    let is_null = length == 0;
+    let request = Request {
+        v,
+        x,
+        length,
+        is_null,
+        junk,
+    };
     let library = |v, x, lent: &mut Lent| called(call, v, x, lent, change);
     let (input, difference) = call.difference(&request, library)?;
     assert_eq!(input, request.show());
@@ -249,8 +271,15 @@ fn a_request_is_shown_with_its_bits() {
         v: -0.5,
         x: 2.0,
         length: 6,
+        is_null: false,
         junk: Junk(1),
     };
     let expected = "v -0.5 (0xbfe0000000000000), x 2.0 (0x4000000000000000), length 6";
     assert_eq!(request.show(), expected);
+    let empty = Request {
+        length: 0,
+        is_null: true,
+        ..request
+    };
+    assert!(empty.show().ends_with(", length 0, null pointer"));
 }

@@ -6,9 +6,10 @@ mod ladder;
 use std::hint::black_box;
 use std::time::{Duration, Instant};
 
+use crate::all_functions;
 use crate::functions::{Function, Pair, Sides};
 use crate::inputs::{Draw, Input};
-use crate::tables::{Call, needed};
+use crate::tables::{CALLS, Call, needed};
 
 const INPUTS: usize = 4096;
 /// A round takes at least about this long.
@@ -18,16 +19,16 @@ const SEED: u64 = 1;
 
 /// Prints the times of each function, over many inputs and at its points, of each table call at its
 /// points, of the ladder, and of the expansion's calls at their points.
-pub fn run<'a>(functions: impl Iterator<Item = &'a Function>, calls: &[Call]) {
+pub fn run() {
     println!("ns per call, best of {ROUNDS} rounds: library, Rust, ratio");
-    for function in functions {
+    for function in all_functions() {
         let name = function.name;
         print_times(name, times(function, &ordinary_inputs(function)));
         for &(x, y) in points(function) {
             print_times(&format!("{name}({x}, {y})"), times(function, &[(x, y)]));
         }
     }
-    for call in calls {
+    for call in &CALLS {
         for &(v, x) in call.points {
             print_times(&format!("{}({v}, {x})", call.name), table_times(call, v, x));
         }

@@ -65,11 +65,23 @@ impl Comparable for u8 {
 /// A difference: the input and both sides as text.
 pub type Difference = (String, String);
 
+/// Gives the difference of two sides at an input, if they are not alike.
+pub fn difference<I: Comparable, A: Comparable>(
+    library: impl Fn(&I) -> A,
+    reference: impl Fn(&I) -> A,
+) -> impl Fn(&I) -> Option<Difference> {
+    move |input| {
+        let (ours, rust) = (library(input), reference(input));
+        let sides = || format!("library {}, Rust {}", ours.show(), rust.show());
+        (!ours.alike(&rust)).then(|| (input.show(), sides()))
+    }
+}
+
 /// What a line is about, and its numbers.
 pub struct Line<'a> {
     name: &'a str,
-    inputs: usize,
-    differences: usize,
+    pub inputs: usize,
+    pub differences: usize,
 }
 
 impl<'a> Line<'a> {
@@ -78,6 +90,17 @@ impl<'a> Line<'a> {
             name,
             inputs: 0,
             differences: 0,
+        }
+    }
+
+    /// Counts the inputs, and those at which there is a difference.
+    pub fn count_all<I>(
+        &mut self,
+        inputs: impl Iterator<Item = I>,
+        difference: impl Fn(&I) -> Option<Difference>,
+    ) {
+        for input in inputs {
+            self.count(difference(&input));
         }
     }
 
@@ -129,11 +152,7 @@ impl Tally {
         library: impl Fn(&I) -> A,
         reference: impl Fn(&I) -> A,
     ) {
-        self.count(name, inputs, |input| {
-            let (ours, rust) = (library(input), reference(input));
-            let sides = || format!("library {}, Rust {}", ours.show(), rust.show());
-            (!ours.alike(&rust)).then(|| (input.show(), sides()))
-        });
+        self.count(name, inputs, difference(library, reference));
     }
 
     /// Counts the inputs at which there is a difference, and prints the line of what is compared.
@@ -144,9 +163,7 @@ impl Tally {
         difference: impl Fn(&I) -> Option<Difference>,
     ) {
         let mut line = Line::new(name);
-        for input in inputs {
-            line.count(difference(&input));
-        }
+        line.count_all(inputs, difference);
         self.add(&line);
     }
 

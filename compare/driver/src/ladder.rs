@@ -15,7 +15,7 @@ mod tests;
 
 use crate::comparing::Tally;
 use crate::tables::{Kind, Lent};
-use comparison::Comparison;
+pub use comparison::Comparison;
 pub use state::State;
 
 /// The library's calls.
@@ -90,14 +90,24 @@ pub fn ask(held: State, point: &Point, [values, derivatives]: [&mut Lent; 2]) ->
     }
 }
 
+/// Compares the library's ladder over `count` requests in drawn lists from an empty ladder.
+pub fn compare_drawn_from_empty(comparison: &mut Comparison, count: usize, seed: u64) {
+    comparison.run(lists::cut(lists::drawn_from_empty(seed), count), ask);
+}
+
+/// The same from drawn states handed in.
+pub fn compare_drawn_from_elsewhere(comparison: &mut Comparison, count: usize, seed: u64) {
+    comparison.run(lists::cut(lists::drawn_from_elsewhere(seed), count), ask);
+}
+
 /// Compares the library's ladder with the scope paper's over `count` requests in lists from an empty
 /// ladder, and over lists from states handed in.
 pub fn compare(tally: &mut Tally, count: usize, seed: u64) {
     let mut from_empty = Comparison::from_empty();
-    from_empty.run(lists::from_empty(count, seed));
+    from_empty.run(lists::from_empty(count, seed), ask);
     from_empty.finish(tally);
     let mut from_elsewhere = Comparison::from_elsewhere();
     let states = count.div_ceil(REQUESTS_FOR_A_STATE);
-    from_elsewhere.run(lists::from_elsewhere(states, seed));
+    from_elsewhere.run(lists::from_elsewhere(states, seed), ask);
     from_elsewhere.finish(tally);
 }

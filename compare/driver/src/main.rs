@@ -9,6 +9,7 @@ mod floats;
 mod functions;
 mod inputs;
 mod ladder;
+mod soak;
 mod start_sums;
 mod store;
 mod tables;
@@ -29,11 +30,12 @@ const LAYERS: [(&str, &[Function]); 3] = [
 ];
 
 const USAGE: &str = "\
-arguments: compare COUNT SEED | entries | store FOLDER | bench
-  COUNT   inputs for each function and for each call of the expansion, requests for each table call
-          and for the ladder from empty; a fifth as many states handed in; a whole number above 0
-  SEED    of the random inputs and requests, a whole number below 2^64
-  FOLDER  where the files of stored answers go";
+arguments: compare COUNT SEED | soak REQUESTS [SEED] | entries | store FOLDER | bench
+  COUNT     inputs for each function and for each call of the expansion, requests for each table call
+            and for the ladder from empty; a fifth as many states handed in; a whole number above 0
+  REQUESTS  for the calls of the C interface in all, a whole number above 0
+  SEED      of the random inputs and requests, a whole number below 2^64
+  FOLDER    where the files of stored answers go";
 
 /// The functions of one or two numbers of all layers.
 fn all_functions() -> impl Iterator<Item = &'static Function> {
@@ -45,24 +47,29 @@ fn main() -> ExitCode {
     let arguments: Vec<String> = std::env::args().skip(1).collect();
     let arguments: Vec<&str> = arguments.iter().map(String::as_str).collect();
     let right = match arguments[..] {
-        ["compare", count, seed] => match (count.parse::<NonZeroUsize>(), seed.parse()) {
-            (Ok(count), Ok(seed)) => compare(count.get(), seed),
-            _ => return usage(),
-        },
-        ["entries"] => entries::run(),
-        ["store", folder] => store_all(Path::new(folder)),
+        ["compare", count, seed] => seeded(compare, count, seed),
+        ["soak", requests] => seeded(soak::run, requests, "1"),
+        ["soak", requests, seed] => seeded(soak::run, requests, seed),
+        ["entries"] => Some(entries::run()),
+        ["store", folder] => Some(store_all(Path::new(folder))),
         ["bench"] => {
-            bench::run(all_functions(), &tables::CALLS);
-            true
+            bench::run();
+            Some(true)
         }
-        _ => return usage(),
+        _ => None,
+    };
+    let Some(right) = right else {
+        eprintln!("{USAGE}");
+        return ExitCode::from(2);
     };
     ExitCode::from(u8::from(!right))
 }
 
-fn usage() -> ExitCode {
-    eprintln!("{USAGE}");
-    ExitCode::from(2)
+/// Runs with a count above 0 and a seed, unless they are none.
+fn seeded(run: fn(usize, u64) -> bool, count: &str, seed: &str) -> Option<bool> {
+    let count: NonZeroUsize = count.parse().ok()?;
+    let seed = seed.parse().ok()?;
+    Some(run(count.get(), seed))
 }
 
 /// Compares every layer. Gives whether there was no difference.

@@ -8,11 +8,12 @@ pub mod stored;
 #[cfg(test)]
 mod tests;
 
-use crate::comparing::Tally;
+use crate::comparing::{Difference, Line, Tally};
 use crate::functions::Pair;
 use crate::inputs::Input;
 pub use edges::{arguments, square_at_order};
 pub use outcome::{Lent, MARGIN, number_difference, slot_difference, whole_difference};
+use requests::Request;
 pub use requests::{Junk, argument};
 pub use split::{Split, needed};
 
@@ -141,10 +142,20 @@ impl Call {
     pub fn compare(&self, tally: &mut Tally, count: usize, seed: u64) {
         let requests = requests::requests(count, self.seed(seed));
         tally.count(self.name, requests, |request| {
-            self.difference(request, |v, x, lent| {
-                // SAFETY: there are `lent.length` slots, and more on either side.
-                unsafe { (self.library)(v, x, lent.first_slot(), lent.length) }
-            })
+            self.library_s_difference(request)
         });
+    }
+
+    /// Compares both sides over `count` drawn requests.
+    pub fn compare_drawn(&self, line: &mut Line, count: usize, seed: u64) {
+        let requests = requests::drawn(self.seed(seed)).take(count);
+        line.count_all(requests, |request| self.library_s_difference(request));
+    }
+
+    fn library_s_difference(&self, request: &Request) -> Option<Difference> {
+        self.difference(request, |v, x, lent| {
+            // SAFETY: there are `lent.length` slots, and more on either side.
+            unsafe { (self.library)(v, x, lent.first_slot(), lent.length) }
+        })
     }
 }

@@ -3,7 +3,7 @@
 use source::entry::{U_POLY, V_POLY};
 
 use super::{drawn, edges, library, reference};
-use crate::comparing::{Comparable, Tally};
+use crate::comparing::{Comparable, Line, Tally, difference};
 use crate::functions::Pair;
 use crate::inputs::Draw;
 use crate::tables::Answer;
@@ -166,5 +166,12 @@ impl<I: Copy + Comparable, A: Comparable> Call<I, A> {
         let Pair { library, reference } = self.sides;
         let inputs = self.inputs(count, seed);
         tally.compare(self.name, inputs, |&i| library(i), |&i| reference(i));
+    }
+
+    /// Compares both sides over `count` drawn inputs.
+    pub fn compare_drawn(&self, line: &mut Line, count: usize, seed: u64) {
+        let Pair { library, reference } = self.sides;
+        let inputs = self.drawn(seed).take(count);
+        line.count_all(inputs, difference(|&i| library(i), |&i| reference(i)));
     }
 }

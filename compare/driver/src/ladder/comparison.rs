@@ -2,8 +2,9 @@
 
 use super::lists::List;
 use super::machine::{Case, Machine};
-use super::{ask, running};
+use super::{Point, Reply, State, running};
 use crate::comparing::{Line, Tally};
+use crate::tables::Lent;
 
 /// What was compared so far.
 pub struct Comparison {
@@ -36,15 +37,19 @@ impl Comparison {
         }
     }
 
-    /// Runs the lists on the library's ladder.
-    pub fn run(&mut self, lists: impl Iterator<Item = List>) {
+    /// Runs the lists on a ladder.
+    pub fn run(
+        &mut self,
+        lists: impl Iterator<Item = List>,
+        ladder: impl Fn(State, &Point, [&mut Lent; 2]) -> Reply,
+    ) {
         for list in lists {
             self.lists += 1;
             if let Some(empty) = &mut self.handed_in {
                 *empty += usize::from(Machine::of(&list.state).held.is_none());
             }
             let number = self.lists;
-            let has_rungs = running::run(&list, ask, |i, case, difference| {
+            let has_rungs = running::run(&list, &ladder, |i, case, difference| {
                 self.cases[case.number()] += 1;
                 self.line.count(difference.map(|(request, sides)| {
                     let place = format!("list {number}, request {}", i + 1);

@@ -13,6 +13,8 @@ mod tests;
 use crate::comparing::Tally;
 use crate::functions::{Function, Pair, Sides, function};
 pub use calls::{Call, D_EXPANSION, MACLAURIN, PBDV_ELEMENTARY, UV_POLY, UV_SUMS};
+#[cfg(test)]
+pub use edges::SHORT;
 
 /// The library's functions.
 mod library {

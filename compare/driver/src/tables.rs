@@ -9,13 +9,13 @@ pub mod stored;
 mod tests;
 
 use crate::comparing::{Difference, Line, Tally};
-use crate::functions::Pair;
-use crate::inputs::Input;
 pub use edges::{arguments, square_at_order};
 pub use outcome::{Lent, MARGIN, number_difference, slot_difference, whole_difference};
 use requests::Request;
 pub use requests::{Junk, argument};
 pub use split::{Split, needed};
+#[cfg(test)]
+pub use tests::branches;
 
 /// The library's calls.
 mod library {
@@ -25,11 +25,6 @@ mod library {
         pub fn gozhnerim_d_table(v: f64, x: f64, table: *mut f64, len: usize) -> Answer;
         pub fn gozhnerim_v_table(v: f64, x: f64, table: *mut f64, len: usize) -> Answer;
     }
-}
-
-/// The source's functions over the stand-ins.
-mod reference {
-    pub use source::entry::{pbdv_impl, pbvv_impl};
 }
 
 type Library = unsafe extern "C" fn(f64, f64, *mut f64, usize) -> Answer;
@@ -64,9 +59,10 @@ pub struct Call {
     number: u64,
     pub name: &'static str,
     library: Library,
+    /// The source's function over the stand-ins.
     reference: Reference,
-    /// Orders and arguments that are timed one by one.
-    pub points: &'static [Input],
+    /// The source's function over the platform's functions, for the times.
+    platform: Reference,
 }
 
 pub const CALLS: [Call; 2] = [
@@ -75,22 +71,16 @@ pub const CALLS: [Call; 2] = [
         number: 24,
         name: "d_table",
         library: library::gozhnerim_d_table,
-        reference: reference::pbdv_impl,
-        points: &[
-            (100.3, 2.0),
-            (900.3, -3.0),
-            (40.0, 7.0),
-            (-100.3, 3.0),
-            (-50.5, 1.0),
-        ],
+        reference: source::entry::pbdv_impl,
+        platform: platform::entry::pbdv_impl,
     },
     Call {
         kind: Kind::V,
         number: 25,
         name: "v_table",
         library: library::gozhnerim_v_table,
-        reference: reference::pbvv_impl,
-        points: &[(50.3, 5.0), (50.3, 20.0), (-50.3, 3.0), (-900.0, 1.0)],
+        reference: source::entry::pbvv_impl,
+        platform: platform::entry::pbvv_impl,
     },
 ];
 
@@ -121,17 +111,22 @@ impl Answer {
 }
 
 impl Call {
-    /// Both sides on a table of the length that the order needs, for the times.
-    pub const SIDES: Pair<Side> = Pair {
-        library: |call, v, x, table| {
+    /// The library, the Rust over the stand-ins and the Rust over the platform's functions, on a
+    /// table of the length that the order needs, for the times.
+    pub const SIDES: [Side; 3] = [
+        |call, v, x, table| {
             // SAFETY: the table has `table.len()` slots.
             unsafe { (call.library)(v, x, table.as_mut_ptr(), table.len()) }
         },
-        reference: |call, v, x, table| {
+        |call, v, x, table| {
             let num = table.len() / 2;
             Answer::pair((call.reference)(x, v, table, num))
         },
-    };
+        |call, v, x, table| {
+            let num = table.len() / 2;
+            Answer::pair((call.platform)(x, v, table, num))
+        },
+    ];
 
     /// A seed of its own, so that its requests do not depend on the other call's.
     fn seed(&self, seed: u64) -> u64 {
@@ -142,17 +137,17 @@ impl Call {
     pub fn compare(&self, tally: &mut Tally, count: usize, seed: u64) {
         let requests = requests::requests(count, self.seed(seed));
         tally.count(self.name, requests, |request| {
-            self.library_s_difference(request)
+            self.library_difference(request)
         });
     }
 
     /// Compares both sides over `count` drawn requests.
     pub fn compare_drawn(&self, line: &mut Line, count: usize, seed: u64) {
         let requests = requests::drawn(self.seed(seed)).take(count);
-        line.count_all(requests, |request| self.library_s_difference(request));
+        line.count_all(requests, |request| self.library_difference(request));
     }
 
-    fn library_s_difference(&self, request: &Request) -> Option<Difference> {
+    fn library_difference(&self, request: &Request) -> Option<Difference> {
         self.difference(request, |v, x, lent| {
             // SAFETY: there are `lent.length` slots, and more on either side.
             unsafe { (self.library)(v, x, lent.first_slot(), lent.length) }

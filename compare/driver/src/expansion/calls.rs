@@ -2,7 +2,8 @@
 
 use source::entry::{U_POLY, V_POLY};
 
-use super::{drawn, edges, library, reference};
+use super::reference::{self, over_platform};
+use super::{drawn, edges, library};
 use crate::comparing::{Comparable, Line, Tally, difference};
 use crate::functions::Pair;
 use crate::inputs::Draw;
@@ -18,16 +19,17 @@ pub struct Call<I: 'static, A> {
     pub number: u64,
     pub name: &'static str,
     pub sides: Pair<fn(I) -> A>,
-    /// The Rust without the tests for refusals, for the times.
-    pub timed: fn(I) -> A,
+    /// The Rust without the tests for refusals, over the stand-ins and over the platform's
+    /// functions, for the times.
+    pub timed: [fn(I) -> A; 2],
     /// A few edge inputs. All of them are stored.
     pub limits: fn() -> Vec<I>,
     /// The other edge inputs.
     pub edges: fn() -> Vec<I>,
     /// Draws an input, given all edge inputs.
     pub drawn: fn(&mut Draw, &[I]) -> I,
-    /// Inputs that are timed one by one.
-    pub points: &'static [I],
+    /// Inputs that are timed one by one, with the form that they take if there are several.
+    pub points: &'static [(&'static str, I)],
 }
 
 /// A polynomial at t: its row, u_0 to u_10 and then v_0 to v_10. Any bar but 0 is true.
@@ -73,7 +75,7 @@ pub const UV_POLY: Call<Polynomial, f64> = Call {
         },
         reference: reference::uv_poly,
     },
-    timed: reference::uv_poly,
+    timed: [reference::uv_poly, over_platform::uv_poly],
     limits: Vec::new,
     edges: edges::polynomials,
     drawn: drawn::polynomial,
@@ -87,11 +89,11 @@ pub const UV_SUMS: Call<[f64; 2], [f64; 2]> = Call {
         library: |[t, w]| library::compared_uv_sums(t, w).0,
         reference: reference::uv_sums,
     },
-    timed: reference::uv_sums,
+    timed: [reference::uv_sums, over_platform::uv_sums],
     limits: edges::limits_of_sums,
     edges: edges::sums,
     drawn: drawn::sums,
-    points: &[[0.3, 0.018]],
+    points: &[("", [0.3, 0.018])],
 };
 
 pub const PBDV_ELEMENTARY: Call<[f64; 2], [f64; 3]> = Call {
@@ -101,11 +103,11 @@ pub const PBDV_ELEMENTARY: Call<[f64; 2], [f64; 3]> = Call {
         library: |[v, x]| library::compared_pbdv_elementary(v, x).0,
         reference: reference::pbdv_elementary,
     },
-    timed: reference::pbdv_elementary,
+    timed: [reference::pbdv_elementary, over_platform::pbdv_elementary],
     limits: edges::limits_of_mantissas,
     edges: edges::mantissas,
     drawn: drawn::mantissas,
-    points: &[[-25.0, 3.0], [-500.25, -40.0]],
+    points: &[("", [-25.0, 3.0]), ("", [-500.25, -40.0])],
 };
 
 pub const D_EXPANSION: Call<[f64; 2], Answer> = Call {
@@ -115,11 +117,17 @@ pub const D_EXPANSION: Call<[f64; 2], Answer> = Call {
         library: |[v, x]| library::gozhnerim_d_expansion(v, x),
         reference: reference::d_expansion,
     },
-    timed: reference::d_pair,
+    timed: [reference::d_pair, over_platform::d_pair],
     limits: edges::limits_of_requests,
     edges: edges::requests,
     drawn: drawn::request,
-    points: PBDV_ELEMENTARY.points,
+    points: &[
+        ("", [-20.0, 0.0]),
+        ("", [-25.0, 3.0]),
+        ("", [-100.5, 20.0]),
+        ("", [-150.25, -0.5]),
+        ("", [-500.25, -40.0]),
+    ],
 };
 
 pub const MACLAURIN: Call<[f64; 5], Answer> = Call {
@@ -129,11 +137,16 @@ pub const MACLAURIN: Call<[f64; 5], Answer> = Call {
         library: |[a, x, c0, c1, e]| library::gozhnerim_maclaurin(a, x, c0, c1, e),
         reference: reference::maclaurin,
     },
-    timed: reference::maclaurin_pair,
+    timed: [reference::maclaurin_pair, over_platform::maclaurin_pair],
     limits: Vec::new,
     edges: edges::series,
     drawn: drawn::series,
-    points: &[[-20.5, 0.1, 1.0, 0.5, 0.0]],
+    points: &[
+        (" series", [-20.5, 0.1, 1.0, 0.5, 0.0]),
+        (" series", [-20.5, 2.0, 1.0, 0.5, 10.0]),
+        (" series", [20.25, 5.0, 1.0, 0.5, -100.0]),
+        (" short form", [-20.5, 1e-160, 1.0, 0.5, 0.0]),
+    ],
 };
 
 impl<I: Copy + Comparable, A: Comparable> Call<I, A> {

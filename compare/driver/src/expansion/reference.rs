@@ -1,9 +1,9 @@
 //! The source's functions over the stand-ins, and the requests that the scope paper makes of them.
 
-use source::entry::{self, U_POLY, V_POLY};
+use source::entry;
 
-use super::calls::Polynomial;
 use crate::tables::Answer;
+pub use over_stand_ins::{d_pair, maclaurin_pair, pbdv_elementary, uv_poly, uv_sums};
 
 /// Where the source's `lgam_stirling_corr` calls `lgam`, which is out of scope.
 const LEAST: f64 = 13.0;
@@ -31,34 +31,6 @@ pub extern "C" fn mul_exp(m: f64, e: f64) -> f64 {
     entry::mul_exp(m, e)
 }
 
-pub fn uv_poly(input: Polynomial) -> f64 {
-    let Polynomial { bar, t, .. } = input;
-    entry::uv_poly(input.coefficients(), input.s(), t, bar != 0)
-}
-
-/// In the order of `pbdv_elementary`.
-pub fn uv_sums([t, w]: [f64; 2]) -> [f64; 2] {
-    let (mut su, mut sv) = (0.0, 0.0);
-    for k in (0..=10).rev() {
-        su = su * w + entry::uv_poly(U_POLY[k], k, t, true);
-        sv = sv * w + entry::uv_poly(V_POLY[k], k, t, true);
-    }
-    [su, sv]
-}
-
-/// For orders of −13 and below, and NaN: elsewhere the source calls `lgam`.
-pub fn pbdv_elementary([v, x]: [f64; 2]) -> [f64; 3] {
-    let ([value, derivative], exponent) = entry::pbdv_elementary(v, x);
-    [value, derivative, exponent]
-}
-
-/// The pair of an accepted request.
-pub fn d_pair([v, x]: [f64; 2]) -> Answer {
-    let ([value, derivative], exponent) = entry::pbdv_elementary(v, x);
-    let times = |mantissa| entry::mul_exp(mantissa, exponent);
-    Answer::pair((times(value), times(derivative)))
-}
-
 pub fn d_expansion(input: [f64; 2]) -> Answer {
     let [v, x] = input;
     if input.iter().any(|number| number.is_nan()) {
@@ -72,11 +44,6 @@ pub fn d_expansion(input: [f64; 2]) -> Answer {
     }
 }
 
-/// The pair of an accepted request.
-pub fn maclaurin_pair([a, x, c0, c1, e]: [f64; 5]) -> Answer {
-    Answer::pair(entry::pb_maclaurin(a, x, c0, c1, e))
-}
-
 pub fn maclaurin(input: [f64; 5]) -> Answer {
     if input.iter().any(|number| number.is_nan()) {
         Answer::refused(1)
@@ -86,3 +53,50 @@ pub fn maclaurin(input: [f64; 5]) -> Answer {
         maclaurin_pair(input)
     }
 }
+
+/// The calls without refusals over one build of the source.
+macro_rules! calls {
+    ($module:ident, $build:ident) => {
+        pub mod $module {
+            use crate::expansion::calls::Polynomial;
+            use crate::tables::Answer;
+            use ::$build::entry::{self, U_POLY, V_POLY};
+
+            pub fn uv_poly(input: Polynomial) -> f64 {
+                let Polynomial { bar, t, .. } = input;
+                entry::uv_poly(input.coefficients(), input.s(), t, bar != 0)
+            }
+
+            /// In the order of `pbdv_elementary`.
+            pub fn uv_sums([t, w]: [f64; 2]) -> [f64; 2] {
+                let (mut su, mut sv) = (0.0, 0.0);
+                for k in (0..=10).rev() {
+                    su = su * w + entry::uv_poly(U_POLY[k], k, t, true);
+                    sv = sv * w + entry::uv_poly(V_POLY[k], k, t, true);
+                }
+                [su, sv]
+            }
+
+            /// For orders of −13 and below, and NaN: elsewhere the source calls `lgam`.
+            pub fn pbdv_elementary([v, x]: [f64; 2]) -> [f64; 3] {
+                let ([value, derivative], exponent) = entry::pbdv_elementary(v, x);
+                [value, derivative, exponent]
+            }
+
+            /// The pair of an accepted request.
+            pub fn d_pair([v, x]: [f64; 2]) -> Answer {
+                let ([value, derivative], exponent) = entry::pbdv_elementary(v, x);
+                let times = |mantissa| entry::mul_exp(mantissa, exponent);
+                Answer::pair((times(value), times(derivative)))
+            }
+
+            /// The pair of an accepted request.
+            pub fn maclaurin_pair([a, x, c0, c1, e]: [f64; 5]) -> Answer {
+                Answer::pair(entry::pb_maclaurin(a, x, c0, c1, e))
+            }
+        }
+    };
+}
+
+calls!(over_stand_ins, source);
+calls!(over_platform, platform);

@@ -67,11 +67,16 @@ impl Comparison {
         let cases = Case::NAMES.iter().zip(self.cases);
         let cases: Vec<_> = cases.map(|(name, many)| format!("{many} {name}")).collect();
         println!("  {}", cases.join(", "));
+        let (states, with_rungs) = (self.states(), self.with_rungs);
+        println!("  {states}; rungs compared after {with_rungs} lists");
+    }
+
+    /// How many lists or states handed in there were.
+    pub fn states(&self) -> String {
         let lists = self.lists;
-        let lists = match self.handed_in {
+        match self.handed_in {
             None => format!("{lists} lists"),
             Some(empty) => format!("{lists} states handed in, {empty} of them counted as empty"),
-        };
-        println!("  {lists}; rungs compared after {} lists", self.with_rungs);
+        }
     }
 }

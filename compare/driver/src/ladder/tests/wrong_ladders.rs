@@ -3,9 +3,9 @@
 use super::right_ladder::Fault::{self, *};
 use super::right_ladder::ladder;
 use super::{COUNT, SEED, STATES, list, point};
-use crate::ladder::lists::{List, from_elsewhere, from_empty};
+use crate::ladder::lists::{List, drawn_from_elsewhere, from_elsewhere, from_empty};
 use crate::ladder::running::run;
-use crate::ladder::{Point, State};
+use crate::ladder::{Comparison, Point, State};
 use crate::tables::Kind::{self, D, V};
 use crate::tables::Lent;
 
@@ -105,6 +105,29 @@ fn wrong_ladders_differ_where_they_are_wrong() {
         assert!(last.as_ref().is_some_and(begins), "{fault:?} {last:?}");
         let right = differences(None, &list);
         assert!(right.iter().all(Option::is_none), "{fault:?} {right:?}");
+    }
+}
+
+#[test]
+fn a_comparison_counts_requests_states_and_differences() {
+    let counted = |fault| {
+        let lists = || drawn_from_elsewhere(SEED).take(2000);
+        let requests = lists().map(|list| list.requests.len()).sum::<usize>();
+        let mut comparison = Comparison::from_elsewhere();
+        comparison.run(lists(), |held, point, tables| {
+            ladder(fault, held, point, tables)
+        });
+        assert_eq!(comparison.line.inputs, requests);
+        assert!(comparison.states().starts_with("2000 states handed in, "));
+        comparison.line.differences
+    };
+    assert_eq!(counted(None), 0);
+    for fault in [
+        KeepsReserved,
+        TakesOtherFunctionsAsV,
+        CutsBelowZeroOnARefusal,
+    ] {
+        assert!(counted(Some(fault)) > 0, "{fault:?}");
     }
 }
 

@@ -20,11 +20,9 @@ fn link(variable: &str, example: &str) {
     println!("cargo::rerun-if-env-changed={variable}");
     let library = env::var(variable)
         .unwrap_or_else(|_| panic!("{variable} is not set: the path of {example}"));
-    let path = Path::new(&library);
-    assert!(path.is_file(), "{variable}: no file {library}");
+    let is_file = Path::new(&library).is_file();
+    assert!(is_file, "{variable}: no file {library}");
     println!("cargo::rerun-if-changed={library}");
-    let folder = path.parent().expect("a file lies in a folder");
-    let name = path.file_name().expect("a file has a name");
-    println!("cargo::rustc-link-search=native={}", folder.display());
-    println!("cargo::rustc-link-lib=static:+verbatim={}", name.display());
+    // By its path: a name would be looked for in the folders of both.
+    println!("cargo::rustc-link-arg={library}");
 }

@@ -36,7 +36,7 @@ fn order(n: u32, below_zero: bool) -> f64 {
 #[cfg(test)]
 mod tests {
     use super::{ROWS, RUNGS, order};
-    use crate::tables::{Kind, Split, branches, needed};
+    use crate::tables::{Split, branches, call, needed};
 
     #[test]
     fn the_orders_have_their_n_and_stay_on_one_branch() {
@@ -54,6 +54,19 @@ mod tests {
                 assert_eq!(found, branch, "{kind:?} {v}");
             }
         }
-        assert_eq!(ROWS[0].0, Kind::D);
+    }
+
+    #[test]
+    fn where_the_pairs_are_finite() {
+        let is_finite = ROWS.map(|(kind, _, below_zero, x)| {
+            RUNGS.map(|n| {
+                let v = order(n, below_zero);
+                let answer = call(kind).expected(v, x, needed(v)).answer;
+                answer.value.is_finite() && answer.derivative.is_finite()
+            })
+        });
+        let up_to_100 = [true, true, true, false, false];
+        let up_to_300 = [true, true, true, true, false];
+        assert_eq!(is_finite, [up_to_300, up_to_100, up_to_100, up_to_100]);
     }
 }

@@ -85,7 +85,7 @@ pub fn list(draw: &mut Draw, state: State, points: &[Point]) -> List {
 /// well, half of these by null pointers.
 fn refused(draw: &mut Draw, mut request: Request) -> Option<Request> {
     let [values, derivatives] = request.point.needed();
-    match draw.below(16) {
+    match draw.below(18) {
         0 => request.point.v = f64::NAN,
         1 => request.point.x = f64::NAN,
         2..4 => request.point.v = REFUSED[draw.below(REFUSED.len())],

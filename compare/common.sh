@@ -14,12 +14,12 @@ if [ $# -lt 1 ] || [ ! -f "$1/xsf/par_cyl.rs" ]; then
 fi
 GOZHNERIM_SOURCE=$(cd "$1" && pwd)
 
-# Builds the static library of a crate, unless its path is given.
+# The path of a crate's static library: the one given, or the one built.
 library() {
     if [ -n "$2" ]; then
         realpath "$2"
     else
-        (cd "$root" && rt staticlib "$1") >&2
+        (cd "$root" && rt staticlib "$1") >&2 || return
         echo "$root/target/staticlib/lib$1.a"
     fi
 }

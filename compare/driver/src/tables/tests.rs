@@ -268,6 +268,26 @@ fn every_edge_order_has_tables_of_all_lengths() {
 }
 
 #[test]
+fn empty_tables_are_lent_by_null_pointers_too() {
+    let edges = edges::requests();
+    for v in edges::orders() {
+        for is_null in [false, true] {
+            let is_such = |request: &Request| {
+                let is_empty = request.length == 0 && request.is_null == is_null;
+                request.v.to_bits() == v.to_bits() && is_empty
+            };
+            assert!(edges.iter().any(is_such), "{v:?} {is_null}");
+        }
+    }
+    for call in &CALLS {
+        let empty = drawn_requests(call).filter(|request| request.length == 0);
+        let (null, other): (Vec<_>, Vec<_>) = empty.partition(|request| request.is_null);
+        assert!(null.len() > COUNT / 1000 && other.len() > COUNT / 1000);
+        assert!(all_requests(call).all(|request| !request.is_null || request.length == 0));
+    }
+}
+
+#[test]
 fn both_sides_of_half_the_square_are_among_the_requests() {
     let pairs = edge_pairs();
     // Up to x = 10.

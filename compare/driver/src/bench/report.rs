@@ -49,7 +49,7 @@ impl Report {
         self.noises.sort_by(f64::total_cmp);
         let noise = |part: f64| self.noises[(part * (self.noises.len() - 1) as f64) as usize];
         println!(
-            "\nOf {} times the median of the rounds is at most {:.2} of the best in half, \
+            "\nOf {} times the median of the rounds is at most {:.2} times the best in half, \
              {:.2} in nine of ten and {:.2} in all.",
             self.noises.len(),
             noise(0.5),

@@ -50,7 +50,8 @@ const CHANGES: [Change; 30] = [
 
 /// With the sign and the payload of the bits, quiet or signalling.
 fn nan(bits: u64) -> f64 {
-    f64::from_bits(bits | 0x7ff0_0000_0000_0001)
+    let number = f64::from_bits(bits | f64::INFINITY.to_bits());
+    if number.is_nan() { number } else { f64::NAN }
 }
 
 /// With the sign of the bits.

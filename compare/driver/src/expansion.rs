@@ -15,6 +15,7 @@ use crate::functions::{Function, Pair, Sides, function};
 pub use calls::{Call, D_EXPANSION, MACLAURIN, PBDV_ELEMENTARY, UV_POLY, UV_SUMS};
 #[cfg(test)]
 pub use edges::SHORT;
+pub use reference::maclaurin;
 
 /// The library's functions.
 mod library {

@@ -1,5 +1,6 @@
 //! The library crate `ladder`: requests that are given a state and hand the next one back.
 
+mod alone;
 mod comparison;
 mod drawn;
 mod edges;
@@ -15,6 +16,7 @@ mod tests;
 
 use crate::comparing::Tally;
 use crate::tables::{Kind, Lent};
+pub use alone::Alone;
 pub use comparison::Comparison;
 pub use state::State;
 

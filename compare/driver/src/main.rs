@@ -2,6 +2,7 @@
 
 mod bench;
 mod comparing;
+mod edge_lines;
 mod elementary;
 mod entries;
 mod expansion;
@@ -30,7 +31,7 @@ const LAYERS: [(&str, &[Function]); 3] = [
 ];
 
 const USAGE: &str = "\
-arguments: compare COUNT SEED | soak REQUESTS [SEED] | entries | store FOLDER | bench
+arguments: compare COUNT SEED | soak REQUESTS [SEED] | entries | edges | store FOLDER | bench
   COUNT     inputs for each function and for each call of the expansion, requests for each table call
             and for the ladder from empty; a fifth as many states handed in; a whole number above 0
   REQUESTS  for the calls of the C interface in all, a whole number above 0
@@ -51,6 +52,10 @@ fn main() -> ExitCode {
         ["soak", requests] => seeded(soak::run, requests, "1"),
         ["soak", requests, seed] => seeded(soak::run, requests, seed),
         ["entries"] => Some(entries::run()),
+        ["edges"] => {
+            println!("{}", edge_lines::lines().join("\n"));
+            Some(true)
+        }
         ["store", folder] => Some(store_all(Path::new(folder))),
         ["bench"] => {
             bench::run();

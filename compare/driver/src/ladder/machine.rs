@@ -33,7 +33,7 @@ pub enum Case {
 }
 
 /// The record held, none in an empty machine.
-#[derive(Clone, Copy, Debug, PartialEq)]
+#[derive(Clone, Copy, Debug, Default, PartialEq)]
 pub struct Machine {
     pub held: Option<Record>,
 }

@@ -37,6 +37,12 @@ pub fn lines() -> Vec<String> {
             &[
                 ("V -2^-60 1", Kind::V, TINY, 1.0),
                 ("V -1 1", Kind::V, -1.0, 1.0),
+            ],
+        ),
+        ladder_lines(
+            [6, 5],
+            &[
+                ("V -1 1", Kind::V, -1.0, 1.0),
                 ("V -6 1", Kind::V, -6.0, 1.0),
                 ("V -4 1", Kind::V, -4.0, 1.0),
                 ("D 1-2^-53 0.5", Kind::D, NEXT_BELOW_1, 0.5),
@@ -163,6 +169,6 @@ mod tests {
         assert!(has("P9 D 1000 0: 2"));
         assert!(has("P11 D 4 0: 2 0 4008000000000000 0000000000000000 "));
         assert!(has("P11 D 4 0: 0 0 4008000000000000 0000000000000000 "));
-        assert_eq!(lines.len(), 38);
+        assert_eq!(lines.len(), 39);
     }
 }

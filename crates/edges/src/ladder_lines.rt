@@ -73,8 +73,8 @@ pub fn examples() {
     );
 }
 
-// No climb from n = 1; a climb, and a refused request between; P12's order, which has the n of order 1.
-pub fn slips() {
+// No climb from n = 1, where V's value 2 is not the recurrence's.
+pub fn starts() {
     let mut values = [-2.5; 6];
     let mut derivatives = [-2.5; 5];
     let a = line(
@@ -86,7 +86,7 @@ pub fn slips() {
         &mut values,
         &mut derivatives,
     );
-    let b = line(
+    line(
         b"V -1 1",
         a,
         Function::V,
@@ -95,18 +95,33 @@ pub fn slips() {
         &mut values,
         &mut derivatives,
     );
-    let c = line(
+}
+
+// A climb after a refused request, and then P12's order, which has the n of order 1.
+pub fn climbs() {
+    let mut values = [-2.5; 6];
+    let mut derivatives = [-2.5; 5];
+    let a = line(
+        b"V -1 1",
+        Ladder::empty(),
+        Function::V,
+        -1.0,
+        1.0,
+        &mut values,
+        &mut derivatives,
+    );
+    let b = line(
         b"V -6 1",
-        b,
+        a,
         Function::V,
         -6.0,
         1.0,
         &mut values,
         &mut derivatives,
     );
-    let d = line(
+    let c = line(
         b"V -4 1",
-        c,
+        b,
         Function::V,
         -4.0,
         1.0,
@@ -115,7 +130,7 @@ pub fn slips() {
     );
     line(
         b"D 1-2^-53 0.5",
-        d,
+        c,
         Function::D,
         0.9999999999999999,
         0.5,

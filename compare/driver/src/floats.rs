@@ -1,4 +1,4 @@
-//! The library crate `floats`: what the text needs of f64 beside its arithmetic.
+//! The library crates `signs`, `truncation` and `extremes`: what the text needs of f64 beside its arithmetic.
 
 use crate::functions::{Function, Pair, Sides, function};
 

@@ -5,7 +5,7 @@ use mathlib.Core.List.{List}
 use lib.ListN.{length, take, drop}
 use lib.Dec.{eqb, leb}
 use lib.Ieee.{Float}
-use Rattle.floats.specs.Functions.{alike}
+use Rattle.signs.specs.Signs.{alike}
 use Rattle.floats.specs.Operations.{bits}
 use Rattle.answers.specs.Words.{wordAt}
 use Rattle.answers.specs.Floats.{floatsAnswer}

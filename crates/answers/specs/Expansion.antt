@@ -9,7 +9,7 @@ use lib.ListN.{getD}
 use Rattle.floats.specs.Operations.{whole, bits, f0, f½, f1}
 use Rattle.gamma_ratio.specs.GammaRatio.{log1pmx, lgamStirlingCorr, lnGammaRatio}
 use Rattle.mul_exp.specs.MulExp.{mulExp}
-use Rattle.coefficients.specs.Polynomials.{uSum, vSum}
+use Rattle.polynomials.specs.Polynomials.{uSum, vSum}
 use Rattle.expansion.specs.Expansion as expansion
 use Rattle.maclaurin.specs.Maclaurin as maclaurin
 use Rattle.answers.specs.Tables.{partOf}

@@ -3,7 +3,9 @@ use Prim.Native.Nat.{ℕ}
 use mathlib.Core.Bool.{Bool, cond}
 use lib.Dec.{eqb}
 use lib.Ieee.{Float, nan, isNan, toSigned}
-use Rattle.floats.specs.Functions.{alike, absolute, infinite, truncated, fraction, lesser, greater, signOf}
+use Rattle.signs.specs.Signs.{alike, absolute, infinite, signOf}
+use Rattle.truncation.specs.Truncation.{truncated, fraction}
+use Rattle.extremes.specs.Extremes.{lesser, greater}
 use Rattle.floats.specs.Operations.{float, f0, f1}
 
 -- a bool as a float: 1 or 0

@@ -9,8 +9,8 @@ use lib.Ieee.{Float, nan, inf, neg}
 use Rattle.floats.specs.Operations.{whole, bits, f0}
 use Rattle.recurrence.specs.declared.Function.{Function}
 use Rattle.recurrence.specs.declared.Function.the-variants.{D, «V»}
-use Rattle.columns.specs.Filled.{filled}
-use Rattle.columns.specs.Columns.{slot}
+use Rattle.value_column.specs.Filled.{filled}
+use Rattle.value_column.specs.Slots.{slot}
 use Rattle.tables.specs.Tables.{refusal, tableAfter, answer}
 
 -- what slot k holds before a call

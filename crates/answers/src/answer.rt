@@ -33,7 +33,7 @@ fn answer_of(n: u64, x: f64, y: f64) -> f64
 pub fn is_alike(s: &[u8]) -> bool
     ensures { λ r. ⌜ r ≡ held (now (s .entry)) ⌝ }
 {
-    floats::alike(
+    signs::alike(
         answer_of(word(s, 0), number(s, 8), number(s, 16)),
         number(s, 24),
     )

@@ -34,7 +34,7 @@ fn constant(k: u64) -> f64
 fn sum_at(part: u64, t: f64, w: f64) -> f64
     ensures { λ r. ⌜ r ≡ sumAt part t w ⌝ }
 {
-    let sums = coefficients::uv_sums(t, w);
+    let sums = polynomials::uv_sums(t, w);
     if part == 0 {
         return sums.u;
     }

@@ -15,16 +15,16 @@ pub fn answer_of(n: u64, x: f64, y: f64) -> f64
     ensures { λ r. ⌜ r ≡ floatsAnswer n x y ⌝ }
 {
     match n {
-        1 => floats::abs(x),
-        2 => truth_of(floats::is_nan(x)),
-        3 => truth_of(floats::is_infinite(x)),
-        4 => floats::to_i32(x) as f64,
-        5 => floats::trunc(x),
-        6 => floats::fract(x),
-        7 => floats::min(x, y),
-        8 => floats::max(x, y),
-        9 => floats::signum(x),
-        10 => truth_of(floats::alike(x, y)),
+        1 => signs::abs(x),
+        2 => truth_of(signs::is_nan(x)),
+        3 => truth_of(signs::is_infinite(x)),
+        4 => truncation::to_i32(x) as f64,
+        5 => truncation::trunc(x),
+        6 => truncation::fract(x),
+        7 => extremes::min(x, y),
+        8 => extremes::max(x, y),
+        9 => signs::signum(x),
+        10 => truth_of(signs::alike(x, y)),
         _ => 0.0 / 0.0,
     }
 }

@@ -4,10 +4,10 @@ ghost use mathlib.Core.Path.{_≡_};
 ghost use mathlib.Core.Bool.{cond};
 ghost use lib.Dec.{eqb};
 ghost use Rattle.floats.specs.Operations.{whole};
-ghost use Rattle.columns.specs.Columns.{slot};
+ghost use Rattle.value_column.specs.Slots.{slot};
 ghost use Rattle.refusals.specs.Answer.{refusalOf, pairOf};
 ghost use Rattle.answers.specs.Tables.{junk, partOf, placeAfter, withJunk, tablesAnswer};
-use rungs::Function;
+use recurrence::Function;
 
 // What slot k holds before a call.
 fn junk(k: usize) -> f64

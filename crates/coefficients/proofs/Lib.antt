@@ -1,5 +1,3 @@
 pub mod Lowest
 pub mod Pairwise
 pub mod Rule
-pub mod Horner
-pub mod Rows

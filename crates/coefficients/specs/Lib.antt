@@ -2,4 +2,3 @@ pub mod Fractions
 pub mod Dlmf
 pub mod Table
 pub mod Nearest
-pub mod Polynomials

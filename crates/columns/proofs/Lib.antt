@@ -1,5 +1,2 @@
-pub mod Filled
-pub mod Turns
 pub mod Room
-pub mod Branches
-pub mod Tables
+pub mod Columns

@@ -1,9 +1,77 @@
-// The columns of values and of derivatives, filled in slices that the caller lends. Each public function takes slices of any length, and where they are
-// too short it stores nothing.
+// The two columns in two slices that the caller lends, of any lengths: values in one and derivatives in the other.
 
-mod downward;
-mod filling;
-mod upward;
+ghost use mathlib.Core.Path.{_≡_};
+ghost use Prim.Native.Nat.{_≤_, _<_};
+ghost use lib.ListN.{length};
+ghost use Rattle.value_column.specs.Filled.{filled};
+ghost use Rattle.value_column.specs.Slots.{derivativeOver};
+ghost use Rattle.columns.specs.Columns.{roomFor, valueColumn, derivativeColumn};
+use order::Rung;
+use recurrence::Function;
+use value_column::fill_values;
 
-pub use filling::fill_columns;
-pub use filling::fill_table;
+// Stores n derivatives, over the values of another table.
+fn fill_derivatives_over(
+    values: &[f64],
+    derivatives: &mut [f64],
+    function: Function,
+    below: bool,
+    x: f64,
+    f: f64,
+    n: Rung,
+)
+    requires held { ⌜ n < length (now values) ⌝ }
+    requires room { ⌜ n ≤ length (now derivatives) ⌝ }
+    ensures { λ _. ⌜ now (derivatives .exit) ≡ filled (derivativeOver function below x f (now (values .entry))) 0 0 n (now (derivatives .entry)) ⌝ }
+{
+    for k in 0..n {
+        let at = k as usize;
+        let next = at + 1;
+        derivatives[at] = derivatives::derivative(
+            function,
+            below,
+            x,
+            f,
+            k,
+            values[at],
+            values[next],
+        );
+    }
+}
+
+// Whether columns of these lengths hold rungs 0 to n.
+fn has_room(n: Rung, values: usize, derivatives: usize) -> bool
+    ensures { λ r. ⌜ r ≡ roomFor n values derivatives ⌝ }
+{
+    if n < 1 {
+        return false;
+    }
+    if n > 1000 {
+        return false;
+    }
+    let top = n as usize;
+    if values <= top {
+        return false;
+    }
+    top <= derivatives
+}
+
+// Stores values 0 to n in one table and derivatives 0 to n - 1 in another. Where a table is too short, or n is not 1 to 1000, nothing is stored.
+pub fn fill_columns(
+    values: &mut [f64],
+    derivatives: &mut [f64],
+    function: Function,
+    below: bool,
+    x: f64,
+    u: f64,
+    f: f64,
+    n: Rung,
+)
+    ensures values { λ _. ⌜ now (values .exit) ≡ valueColumn function below x u f n (now (values .entry)) (length (now (derivatives .entry))) ⌝ }
+    ensures derivatives { λ _. ⌜ now (derivatives .exit) ≡ derivativeColumn function below x u f n (length (now (values .entry))) (now (derivatives .entry)) ⌝ }
+{
+    if has_room(n, values.len(), derivatives.len()) {
+        fill_values(values, function, below, x, u, f, n);
+        fill_derivatives_over(values, derivatives, function, below, x, f, n);
+    }
+}

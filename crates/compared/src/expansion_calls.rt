@@ -5,7 +5,7 @@ ghost use mathlib.Core.Bool.{not};
 ghost use lib.Dec.{eqb};
 ghost use Rattle.gamma_ratio.specs.GammaRatio.{log1pmx, lgamStirlingCorr, lnGammaRatio};
 ghost use Rattle.mul_exp.specs.MulExp.{mulExp};
-ghost use Rattle.coefficients.specs.Polynomials.{uvPoly, uSum, vSum};
+ghost use Rattle.polynomials.specs.Polynomials.{uvPoly, uSum, vSum};
 ghost use Rattle.expansion.specs.Expansion as expanded;
 
 // The sums of u_s and of v_s.
@@ -56,7 +56,7 @@ pub extern "C" fn compared_mul_exp(m: f64, e: f64) -> f64
 pub extern "C" fn compared_uv_poly(p: &[f64], s: u32, t: f64, bar: u32) -> f64
     ensures { λ r. ⌜ r ≡ uvPoly (now (p .entry)) s t (not (eqb bar 0)) ⌝ }
 {
-    coefficients::uv_poly(p, s, t, bar != 0)
+    polynomials::uv_poly(p, s, t, bar != 0)
 }
 
 #[no_mangle]
@@ -64,7 +64,7 @@ pub extern "C" fn compared_uv_sums(t: f64, w: f64) -> ComparedSums
     ensures u { λ r. ⌜ r .u ≡ uSum t w ⌝ }
     ensures v { λ r. ⌜ r .v ≡ vSum t w ⌝ }
 {
-    let sums = coefficients::uv_sums(t, w);
+    let sums = polynomials::uv_sums(t, w);
     ComparedSums {
         u: sums.u,
         v: sums.v,

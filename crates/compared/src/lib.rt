@@ -4,7 +4,9 @@ mod expansion_calls;
 
 ghost use mathlib.Core.Path.{_≡_};
 ghost use lib.Ieee.{isNan, toSigned};
-ghost use Rattle.floats.specs.Functions.{alike, absolute, infinite, truncated, fraction, lesser, greater, signOf};
+ghost use Rattle.signs.specs.Signs.{alike, absolute, infinite, signOf};
+ghost use Rattle.truncation.specs.Truncation.{truncated, fraction};
+ghost use Rattle.extremes.specs.Extremes.{lesser, greater};
 ghost use Rattle.exponential.specs.Exponential.{exp, exp2, expM1};
 ghost use Rattle.logarithm.specs.Logarithm.{ln, power};
 ghost use Rattle.trigonometric.specs.Trigonometric.{sin, cos};
@@ -17,70 +19,70 @@ ghost use Rattle.start_sums.specs.StartSums.{dvla, vvla};
 pub extern "C" fn compared_abs(x: f64) -> f64
     ensures { λ r. ⌜ r ≡ absolute x ⌝ }
 {
-    floats::abs(x)
+    signs::abs(x)
 }
 
 #[no_mangle]
 pub extern "C" fn compared_is_nan(x: f64) -> bool
     ensures { λ r. ⌜ r ≡ isNan x ⌝ }
 {
-    floats::is_nan(x)
+    signs::is_nan(x)
 }
 
 #[no_mangle]
 pub extern "C" fn compared_is_infinite(x: f64) -> bool
     ensures { λ r. ⌜ r ≡ infinite x ⌝ }
 {
-    floats::is_infinite(x)
+    signs::is_infinite(x)
 }
 
 #[no_mangle]
 pub extern "C" fn compared_to_i32(x: f64) -> i32
     ensures { λ r. ⌜ r ≡ toSigned 31 x ⌝ }
 {
-    floats::to_i32(x)
+    truncation::to_i32(x)
 }
 
 #[no_mangle]
 pub extern "C" fn compared_trunc(x: f64) -> f64
     ensures { λ r. ⌜ r ≡ truncated x ⌝ }
 {
-    floats::trunc(x)
+    truncation::trunc(x)
 }
 
 #[no_mangle]
 pub extern "C" fn compared_fract(x: f64) -> f64
     ensures { λ r. ⌜ r ≡ fraction x ⌝ }
 {
-    floats::fract(x)
+    truncation::fract(x)
 }
 
 #[no_mangle]
 pub extern "C" fn compared_min(a: f64, b: f64) -> f64
     ensures { λ r. ⌜ r ≡ lesser a b ⌝ }
 {
-    floats::min(a, b)
+    extremes::min(a, b)
 }
 
 #[no_mangle]
 pub extern "C" fn compared_max(a: f64, b: f64) -> f64
     ensures { λ r. ⌜ r ≡ greater a b ⌝ }
 {
-    floats::max(a, b)
+    extremes::max(a, b)
 }
 
 #[no_mangle]
 pub extern "C" fn compared_signum(x: f64) -> f64
     ensures { λ r. ⌜ r ≡ signOf x ⌝ }
 {
-    floats::signum(x)
+    signs::signum(x)
 }
 
 #[no_mangle]
 pub extern "C" fn compared_alike(a: f64, b: f64) -> bool
     ensures { λ r. ⌜ r ≡ alike a b ⌝ }
 {
-    floats::alike(a, b)
+    signs::alike(a, b)
 }
 
 #[no_mangle]

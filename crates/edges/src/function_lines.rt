@@ -35,8 +35,8 @@ pub fn whole_orders() {
 // The maximum at NaN: by itself, and in a series whose terms become NaN.
 pub fn maxima() {
     let nan = 0.0 / 0.0;
-    line(b"max(NaN, 1)", floats::max(nan, 1.0));
-    line(b"max(1, NaN)", floats::max(1.0, nan));
+    line(b"max(NaN, 1)", extremes::max(nan, 1.0));
+    line(b"max(1, NaN)", extremes::max(1.0, nan));
     printing::name(b"maclaurin(1e300, 1e10, 1, -1, 0)");
     printing::answer(maclaurin::maclaurin(1e300, 1e10, 1.0, -1.0, 0.0));
     printing::end();

@@ -8,12 +8,12 @@ use mathlib.Core.Option.{Option}
 use Prim.Native.Nat.{ℕ}
 use lib.Ieee.{Float, isNan, lt, le, neg}
 use Rattle.floats.specs.Operations.{_⊕_, _⊖_, _⊗_, _⊘_, f0, f½, f1}
-use Rattle.floats.specs.Functions.{infinite}
+use Rattle.signs.specs.Signs.{infinite}
 use Rattle.exponential.specs.Exponential.{expM1}
 use Rattle.logarithm.specs.Logarithm.{ln}
 use Rattle.roots.specs.SquareRoot.{squareRoot}
 use Rattle.refusals.specs.Answer.{answerBy}
-use Rattle.coefficients.specs.Polynomials.{uSum, vSum}
+use Rattle.polynomials.specs.Polynomials.{uSum, vSum}
 use Rattle.mul_exp.specs.MulExp.{mulExp}
 use Rattle.gamma_ratio.specs.GammaRatio.{lnGammaRatio}
 use Rattle.expansion.specs.Constants.{farthest, beyond, f20, f¼, f2}

@@ -3,12 +3,12 @@
 ghost use mathlib.Core.Path.{_≡_};
 ghost use Rattle.refusals.specs.Answer.{refusalOf, pairOf};
 ghost use Rattle.expansion.specs.Expansion.{clamped, logarithmOf, exponentOf, weight, gBar, mantissas, refusal, answer};
-use coefficients::uv_sums;
-use floats::is_infinite;
-use floats::is_nan;
 use logarithm::ln;
+use polynomials::uv_sums;
 use refusals::Answer;
 use roots::square_root;
+use signs::is_infinite;
+use signs::is_nan;
 
 // D and its derivative as mantissas with one exponent: value * e^exponent and derivative * e^exponent.
 pub struct Mantissas {

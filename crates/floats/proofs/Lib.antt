@@ -6,9 +6,5 @@ pub mod Rounding
 pub mod Monotone
 pub mod Wholes
 pub mod Parts
-pub mod Signs
-pub mod Cuts
-pub mod Truncation
 pub mod Bounds
 pub mod Loops
-pub mod Edges

@@ -71,3 +71,9 @@ wholeFrom = bits 0x4330_0000_0000_0000
 pub wholeFrom-is : wholeFrom ≡ decimal 4503599627370496 0
 unfolding decimal ofBits
 wholeFrom-is = refl
+
+-- ---- the operations at these constants, by computing
+
+pub operations : (f½ ⊕ f½ ≡ f1) × (f1 ⊖ f½ ≡ f½) × (f1 ⊗ f½ ≡ f½) × (f½ ⊘ f½ ≡ f1)
+unfolding Ieee.add Ieee.sub Ieee.mul Ieee.div round ofBits
+operations = (refl, refl, refl, refl)

@@ -7,7 +7,8 @@ use lib.Dec.{lit≤}
 use lib.ListN.{getD}
 use lib.Ieee.{Float, nan, add, sub, mul, div, neg, lt, eq, ofBits, ofInt, toSigned}
 use Rattle.floats.specs.Operations.{_⊗_, _⊘_, bits, decimal}
-use Rattle.floats.specs.Functions.{absolute, infinite, truncated, fraction}
+use Rattle.signs.specs.Signs.{absolute, infinite}
+use Rattle.truncation.specs.Truncation.{truncated, fraction}
 use Rattle.floats.specs.Loops.{countUp}
 use Rattle.trigonometric.specs.QuarterTurns.{pi}
 use Rattle.trigonometric.proofs.QuarterTurns.{quarter-turns}

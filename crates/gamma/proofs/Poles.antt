@@ -11,7 +11,7 @@ use Rattle.floats.specs.Operations.{whole, f0}
 use Rattle.floats.proofs.Tests.{one}
 use Rattle.floats.proofs.Values.{zero-value, neg-value, ofInt-pos}
 use Rattle.floats.proofs.Comparison.{lt-at, eq-at}
-use Rattle.floats.proofs.Truncation.{whole-truncated}
+use Rattle.truncation.proofs.Truncation.{whole-truncated}
 use Rattle.gamma.specs.Constants.{poleValue}
 use Rattle.gamma.specs.Gamma.{gamma2}
 use Rattle.gamma.specs.Gamma.Open.{gamma2-pole}

@@ -3,8 +3,8 @@
 ghost use mathlib.Core.Path.{_≡_};
 ghost use lib.Ieee.{toSigned};
 ghost use Rattle.gamma.specs.Gamma.{lastOf, factorial, falling, reciprocalSeries, gammaNear, gammaAbove, gamma2};
-use floats::abs;
-use floats::is_infinite;
+use signs::abs;
+use signs::is_infinite;
 use trigonometric::sin;
 
 // The source's PI.
@@ -67,7 +67,7 @@ const C26: f64 = 0.1000000000000000e-15;
 fn last_factor(y: f64) -> u32
     ensures { λ r. ⌜ r ≡ lastOf (toSigned 31 y) ⌝ }
 {
-    let m = floats::to_i32(y);
+    let m = truncation::to_i32(y);
     if m < 0 {
         return 0;
     }
@@ -124,14 +124,14 @@ fn gamma_near(z: f64) -> f64
 fn gamma_above(z: f64) -> f64
     ensures { λ r. ⌜ r ≡ gammaAbove z ⌝ }
 {
-    gamma_near(floats::fract(z)) * falling(z, last_factor(z))
+    gamma_near(truncation::fract(z)) * falling(z, last_factor(z))
 }
 
 // Γ(x); 1e300 at its poles and at minus infinity.
 pub fn gamma2(x: f64) -> f64
     ensures { λ r. ⌜ r ≡ gamma2 x ⌝ }
 {
-    if x == floats::trunc(x) {
+    if x == truncation::trunc(x) {
         if x > 0.0 {
             return factorial(last_factor(x - 1.0));
         }

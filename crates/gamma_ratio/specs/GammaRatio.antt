@@ -6,7 +6,7 @@ use mathlib.Core.Bool.{false}
 use Prim.Native.Nat.{ℕ}
 use lib.Ieee.{Float, lt, neg}
 use Rattle.floats.specs.Operations.{_⊕_, _⊗_, _⊘_, whole, f0, f½, f1}
-use Rattle.floats.specs.Functions.{absolute}
+use Rattle.signs.specs.Signs.{absolute}
 use Rattle.floats.specs.Loops.{Turn, countUp}
 use Rattle.floats.specs.Polynomials.{polevl}
 use Rattle.gamma_ratio.specs.Constants.{epsilon, gammaA}

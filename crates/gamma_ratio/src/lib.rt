@@ -2,7 +2,7 @@
 
 ghost use mathlib.Core.Path.{_≡_};
 ghost use Rattle.gamma_ratio.specs.GammaRatio.{log1pmx, lgamStirlingCorr, lnGammaRatio};
-use floats::abs;
+use signs::abs;
 
 // The source's GAMMA_A: the coefficients of the correction to Stirling's formula, from the highest power of 1/x^2 down.
 const A4: f64 = 8.116_141_674_705_085e-4;

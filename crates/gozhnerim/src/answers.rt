@@ -8,6 +8,8 @@ ghost use Rattle.tables.specs.Tables.{refusal, tableAfter, answer};
 ghost use Rattle.expansion.specs.Expansion as expanded;
 ghost use Rattle.maclaurin.specs.Maclaurin as maclaurin;
 ghost use Rattle.gozhnerim.specs.Answers.{answerOf};
+use recurrence::Function;
+use refusals::Answer;
 
 // Refusal 0: answered. On a refusal the two numbers are NaN.
 #[repr(C)]
@@ -18,16 +20,16 @@ pub struct GozhnerimAnswer {
 }
 
 // An answer as the struct.
-pub(crate) fn flat(a: tables::Answer) -> GozhnerimAnswer
+pub(crate) fn flat(a: Answer) -> GozhnerimAnswer
     ensures { λ r. ⌜ r ≡ answerOf (refusalOf a) (pairOf a) ⌝ }
 {
     match a {
-        tables::Answer::Pair(value, derivative) => GozhnerimAnswer {
+        Answer::Pair(value, derivative) => GozhnerimAnswer {
             refusal: 0,
             value: value,
             derivative: derivative,
         },
-        tables::Answer::Refused(number) => GozhnerimAnswer {
+        Answer::Refused(number) => GozhnerimAnswer {
             refusal: number as u32,
             value: 0.0 / 0.0,
             derivative: 0.0 / 0.0,
@@ -40,7 +42,7 @@ pub extern "C" fn gozhnerim_d_table(v: f64, x: f64, table: &mut [f64]) -> Gozhne
     ensures answer { λ r. ⌜ r ≡ answerOf (refusal v x (length (now (table .entry)))) (answer D v x (length (now (table .entry)))) ⌝ }
     ensures table { λ _. ⌜ now (table .exit) ≡ tableAfter D v x (now (table .entry)) ⌝ }
 {
-    flat(tables::d_table(v, x, table))
+    flat(tables::table(Function::D, v, x, table))
 }
 
 #[no_mangle]
@@ -48,7 +50,7 @@ pub extern "C" fn gozhnerim_v_table(v: f64, x: f64, table: &mut [f64]) -> Gozhne
     ensures answer { λ r. ⌜ r ≡ answerOf (refusal v x (length (now (table .entry)))) (answer «V» v x (length (now (table .entry)))) ⌝ }
     ensures table { λ _. ⌜ now (table .exit) ≡ tableAfter «V» v x (now (table .entry)) ⌝ }
 {
-    flat(tables::v_table(v, x, table))
+    flat(tables::table(Function::V, v, x, table))
 }
 
 #[no_mangle]

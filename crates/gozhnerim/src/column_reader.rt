@@ -3,7 +3,8 @@
 ghost use mathlib.Core.Path.{_≡_};
 ghost use lib.ListN.{length};
 ghost use Rattle.gozhnerim.specs.Columns.{columnIn};
-use ladder::Column;
+use reader::Column;
+use reader::read_column;
 
 // Which is 1 for the values and 2 for the derivatives; any other number names neither, and its part is empty.
 #[no_mangle]
@@ -16,11 +17,11 @@ pub extern "C" fn gozhnerim_column<'a>(
     ensures { λ r. ⌜ r ≡ length (columnIn which c (now (values .entry)) (now (derivatives .entry))) ⌝ }
 {
     if which == 1 {
-        let part = ladder::read_column(values, derivatives, Column::Values, c);
+        let part = read_column(values, derivatives, Column::Values, c);
         return part.len();
     }
     if which == 2 {
-        let part = ladder::read_column(values, derivatives, Column::Derivatives, c);
+        let part = read_column(values, derivatives, Column::Derivatives, c);
         return part.len();
     }
     0

@@ -10,7 +10,7 @@ use crate::answers::flat;
 use ladder::Ladder;
 use ladder::Reply;
 use ladder::Written;
-use rungs::Function;
+use recurrence::Function;
 
 // A state. Function 1 is D, 2 is V, and any other number makes it empty; below_zero is 0 from order 0 on; value_below is rung n - 1, value_top rung n.
 #[repr(C)]

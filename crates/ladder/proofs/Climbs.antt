@@ -6,9 +6,10 @@ use native.Mathlib.Nat.{sub-self}
 use native.Mathlib.Omega.{arith}
 use lib.ListN.{set}
 use lib.Ieee.{Float}
-use Rattle.recurrence.specs.Recurrence.{step, derivative}
-use Rattle.columns.specs.Filled.{filled}
-use Rattle.columns.proofs.Filled.{filled-more}
+use Rattle.recurrence.specs.Recurrence.{step}
+use Rattle.derivatives.specs.Derivatives.{derivative}
+use Rattle.value_column.specs.Filled.{filled}
+use Rattle.value_column.proofs.Filled.{filled-more}
 use Rattle.ladder.specs.declared.Ladder.{Ladder}
 use Rattle.ladder.specs.Ladder.{carried, carriedValue, carriedDerivative, climbedTo}
 use Rattle.ladder.specs.Ladder.Open.{carried-zero, carried-suc, carriedValue-is, carriedDerivative-is, climbedTo-is}

@@ -8,8 +8,8 @@ use lib.Dec.{T}
 use lib.ListN.{length}
 use lib.Ieee.{Float, binary64, fits}
 use Rattle.order.specs.Order.{topRung}
-use Rattle.columns.specs.Filled.{filled}
-use Rattle.columns.proofs.Filled.{length-filled}
+use Rattle.value_column.specs.Filled.{filled}
+use Rattle.value_column.proofs.Filled.{length-filled}
 use Rattle.tables.specs.Tables.{valueOf, derivativeOf}
 use Rattle.machine.specs.Machine.{Request, asked, refusal, Verdict, refuses, repeats, climbs, startsOver, verdict}
 use Rattle.machine.specs.Held.{machineOf}

@@ -10,10 +10,12 @@ use lib.Ieee.{Float, binary64, fits}
 use Rattle.order.specs.Order.{below, shifted, fractionOf, topRung, num}
 use Rattle.order.specs.Facts.{Split}
 use Rattle.order.proofs.Facts.{split-facts}
-use Rattle.columns.specs.Filled.{filled}
-use Rattle.columns.specs.Columns.{slot, roomFor, valueColumn, derivativeColumn}
+use Rattle.value_column.specs.Filled.{filled}
+use Rattle.value_column.specs.Slots.{slot}
+use Rattle.columns.specs.Columns.{roomFor, valueColumn, derivativeColumn}
 use Rattle.columns.proofs.Room.{room-for}
-use Rattle.columns.proofs.Branches.{slot-filled, value-column-is, derivative-column-is}
+use Rattle.value_column.proofs.Branches.{slot-filled}
+use Rattle.columns.proofs.Columns.{value-column-is, derivative-column-is}
 use Rattle.tables.specs.Tables.{valueOf, derivativeOf}
 use Rattle.tables.proofs.Calls.{value-is, derivative-is}
 use Rattle.machine.specs.Machine.{Request, refusal}

@@ -8,8 +8,9 @@ use lib.Ieee.{Float}
 use Rattle.floats.specs.Operations.{f0}
 use Rattle.order.specs.Order.{below, fractionOf, topRung}
 use Rattle.recurrence.specs.declared.Function.the-variants.{D}
-use Rattle.recurrence.specs.Recurrence.{step, derivative}
-use Rattle.columns.specs.Filled.{filled}
+use Rattle.recurrence.specs.Recurrence.{step}
+use Rattle.derivatives.specs.Derivatives.{derivative}
+use Rattle.value_column.specs.Filled.{filled}
 use Rattle.refusals.specs.Answer.{refusalOf, pairOf}
 use Rattle.tables.specs.Tables.{valueOf, derivativeOf}
 use Rattle.machine.specs.declared.Held.{Held}

@@ -1,2 +1,1 @@
 pub mod Ladder
-pub mod Columns

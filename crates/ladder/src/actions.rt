@@ -5,7 +5,7 @@ ghost use mathlib.Core.Option.{some};
 ghost use Prim.Native.Nat.{_+_, _≤_};
 ghost use lib.ListN.{length};
 ghost use Rattle.order.specs.Order.{topRung};
-ghost use Rattle.columns.specs.Filled.{filled};
+ghost use Rattle.value_column.specs.Filled.{filled};
 ghost use Rattle.tables.specs.Tables.{valueOf, derivativeOf};
 ghost use Rattle.machine.specs.Machine.{asks, asked, refusal, verdict};
 ghost use Rattle.machine.specs.Held.{machineOf, verdictOf};
@@ -17,7 +17,7 @@ use crate::climbing::climb;
 use machine::Held;
 use machine::Judgement;
 use order::Rung;
-use rungs::Function;
+use recurrence::Function;
 use tables::Answer;
 
 // The fields of a state, its two values left out.
@@ -52,7 +52,7 @@ fn answer(s: Ladder, count: Rung) -> Reply
 {
     let function = s.function;
     let low = s.low;
-    let d = rungs::derivative(function, s.below, s.x, s.f, s.n - 1, low, s.high);
+    let d = derivatives::derivative(function, s.below, s.x, s.f, s.n - 1, low, s.high);
     Reply {
         state: s,
         answer: Answer::Pair(low, d),

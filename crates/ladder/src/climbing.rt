@@ -3,7 +3,7 @@
 ghost use mathlib.Core.Path.{_≡_};
 ghost use Prim.Native.Nat.{_+_, _-_, _≤_, _<_};
 ghost use lib.ListN.{length};
-ghost use Rattle.columns.specs.Filled.{filled};
+ghost use Rattle.value_column.specs.Filled.{filled};
 ghost use Rattle.ladder.specs.Ladder.{carriedValue, carriedDerivative, climbedTo};
 use crate::Ladder;
 use order::Rung;
@@ -26,10 +26,10 @@ pub(crate) fn climb(values: &mut [f64], derivatives: &mut [f64], s: Ladder, top:
     let mut low = s.low;
     let mut high = s.high;
     for k in held..top {
-        let r = rungs::step(function, below, x, f, k + 1, low, high);
+        let r = recurrence::step(function, below, x, f, k + 1, low, high);
         let at = k as usize;
         let next = at + 1;
-        derivatives[at] = rungs::derivative(function, below, x, f, k, high, r);
+        derivatives[at] = derivatives::derivative(function, below, x, f, k, high, r);
         values[next] = r;
         low = high;
         high = r;

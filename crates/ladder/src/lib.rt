@@ -3,7 +3,6 @@
 
 mod actions;
 mod climbing;
-mod reader;
 
 ghost use mathlib.Core.Path.{_≡_};
 ghost use mathlib.Core.Bool.{true};
@@ -13,8 +12,7 @@ ghost use Rattle.ladder.specs.Ladder.{emptyState, heldIn, givenBy, outco
 use actions::act;
 use actions::held_in;
 use order::Rung;
-pub use reader::read_column;
-use rungs::Function;
+use recurrence::Function;
 use tables::Answer;
 
 // The state: function, side (v < 0 or not), argument, fraction of the order, n, and the values of rungs n - 1 and n. It is empty where n is 0.
@@ -39,12 +37,6 @@ pub struct Reply {
     pub state: Ladder,
     pub answer: Answer,
     pub written: Written,
-}
-
-// One of the two tables.
-pub enum Column {
-    Values,
-    Derivatives,
 }
 
 impl Ladder {

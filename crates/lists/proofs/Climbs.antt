@@ -9,10 +9,12 @@ use Rattle.floats.specs.Operations.{_⊕_, whole}
 use Rattle.order.specs.Facts.{Split}
 use Rattle.recurrence.specs.declared.Function.{Function}
 use Rattle.recurrence.specs.Recurrence.{step}
-use Rattle.rungs.specs.declared.Branch.the-variants.{Forward}
+use Rattle.branches.specs.declared.Branch.the-variants.{Forward}
 use Rattle.rungs.specs.Rungs.{rung}
-use Rattle.rungs.specs.Branches.{branchOf, runsForward, value, derivativeAt}
-use Rattle.rungs.proofs.Laws.{rung-step, value-forward, derivative-at, forward-branch, forward-held, forward-higher}
+use Rattle.branches.specs.Branches.{branchOf, runsForward}
+use Rattle.rungs.specs.Branches.{value, derivativeAt}
+use Rattle.branches.proofs.Laws.{forward-branch, forward-held, forward-higher}
+use Rattle.rungs.proofs.Laws.{rung-step, value-forward, derivative-at}
 use Rattle.ladder.specs.declared.Ladder.{Ladder}
 use Rattle.ladder.specs.Ladder.{carried, carriedValue, carriedDerivative, climbedTo}
 use Rattle.ladder.specs.Ladder.Open.{carried-zero, carried-suc, carriedValue-is, carriedDerivative-is, climbedTo-is}

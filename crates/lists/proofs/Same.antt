@@ -8,7 +8,8 @@ use Rattle.floats.specs.Operations.{_⊕_, whole}
 use Rattle.order.specs.Order.{below, shifted, fractionOf, topRung, num}
 use Rattle.order.specs.Facts.{Split}
 use Rattle.recurrence.specs.declared.Function.{Function}
-use Rattle.rungs.specs.Branches.{runsForward, value}
+use Rattle.branches.specs.Branches.{runsForward}
+use Rattle.rungs.specs.Branches.{value}
 use Rattle.tables.specs.Tables.{valueOf, derivativeOf}
 use Rattle.tables.proofs.Calls.{value-is, derivative-is}
 use Rattle.machine.specs.Machine.{Request, bitsOf, sameRungs, mayClimb}

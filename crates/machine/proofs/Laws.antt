@@ -10,12 +10,12 @@ use lib.Dec.{T, eqb, leb, ltb}
 use lib.Ieee.{Float, binary64, fits, isNan, le, ofBits}
 use lib.Ieee.Bits.{ofBits-toBits}
 use Rattle.floats.specs.Operations.{_⊕_, bits, whole, f1}
-use Rattle.floats.specs.Functions.{absolute}
+use Rattle.signs.specs.Signs.{absolute}
 use Rattle.order.specs.Order.{tooLarge, below, fractionOf, topRung}
 use Rattle.recurrence.specs.declared.Function.{Function}
 use Rattle.recurrence.specs.declared.Function.the-variants.{D, «V»}
-use Rattle.rungs.specs.Branches.{runsForward}
-use Rattle.tables.proofs.Calls.{accepted-by}
+use Rattle.branches.specs.Branches.{runsForward}
+use Rattle.table_refusals.proofs.Laws.{accepted-by}
 use Rattle.machine.specs.declared.Held.{Held}
 use Rattle.machine.specs.Machine.{Request, Feed, asked, tooShort, refusal, Machine, empty, holds, bitsOf, holding, Verdict, refuses, repeats, climbs, startsOver, written, sameFunction, sameRungs, mayClimb, caseBy, caseOf, verdict, next, verdicts, after}
 use Rattle.machine.specs.Machine.Open.{tooShort-is, refusal-is, bitsOf-is, holding-is, written-refuses, written-repeats, written-climbs, written-startsOver, same-D-V, same-V-D, sameRungs-is, mayClimb-is, caseBy-empty, caseBy-holds, caseOf-is, verdict-is, next-is, verdicts-nil, verdicts-cons, after-nil, after-cons}

@@ -7,11 +7,11 @@ use lib.Dec.{T, eqb, ltb}
 use lib.Ieee.{Float, binary64, fits, isNan, le}
 use lib.Ieee.Bits.{ofBits-toBits}
 use Rattle.floats.specs.Operations.{_⊕_, whole, f1}
-use Rattle.floats.specs.Functions.{alike, absolute}
+use Rattle.signs.specs.Signs.{alike, absolute}
 use Rattle.order.specs.Order.{below, fractionOf, topRung}
 use Rattle.recurrence.specs.declared.Function.{Function}
-use Rattle.rungs.specs.Branches.{runsForward}
-use Rattle.tables.specs.Tables.{refusalBy}
+use Rattle.branches.specs.Branches.{runsForward}
+use Rattle.table_refusals.specs.Refusals.{refusalBy}
 use Rattle.machine.specs.declared.Held.{Held}
 use Rattle.machine.specs.Machine.{Request, asked, tooShort, refusal, Machine, bitsOf, Verdict, refuses, repeats, climbs, startsOver, sameFunction, sameRungs, mayClimb, caseBy, verdict}
 use Rattle.machine.specs.Machine.Open.{tooShort-is, refusal-is, bitsOf-is, sameRungs-is, mayClimb-is, caseBy-empty, caseBy-holds, caseOf-is, verdict-is}

@@ -11,9 +11,9 @@ use Rattle.order.specs.Order.{topRung}
 use Rattle.order.specs.Order.Examples.{parts}
 use Rattle.order.proofs.Laws.{order-two, order-four, large, side, part, top}
 use Rattle.recurrence.specs.declared.Function.the-variants.{D}
-use Rattle.rungs.proofs.Laws.{forward-runs}
-use Rattle.rungs.proofs.Values.{D-forward}
-use Rattle.tables.proofs.Calls.{not-refused}
+use Rattle.branches.proofs.Laws.{forward-runs}
+use Rattle.branches.proofs.Laws.{D-forward}
+use Rattle.table_refusals.proofs.Laws.{not-refused}
 use Rattle.machine.specs.Machine.{Request, asks, Feed, asked, tooShort, refusal, Machine, empty, holds, bitsOf, holding, repeats, climbs, startsOver, mayClimb, verdict, next, verdicts}
 use Rattle.machine.specs.Machine.Open.{tooShort-is, refusal-is, holding-is, same-D-D, sameRungs-is, mayClimb-is, caseBy-empty, caseBy-holds, caseOf-is, verdict-is}
 use Rattle.machine.proofs.Laws.{next-accepted, no-verdicts, more-verdicts}

@@ -3,7 +3,7 @@ use mathlib.Core.Bool.{Bool, _||_, cond}
 use lib.Dec.{eqb, ltb}
 use lib.Ieee.{isNan, le}
 use Rattle.floats.specs.Operations.{f1}
-use Rattle.floats.specs.Functions.{absolute}
+use Rattle.signs.specs.Signs.{absolute}
 use Rattle.machine.specs.declared.Held.{Held}
 use Rattle.machine.specs.declared.Judgement.{Judgement}
 use Rattle.machine.specs.declared.Judgement.the-variants.{Refused, Repeat, Climb, StartOver}

@@ -11,8 +11,8 @@ use Rattle.floats.specs.Operations.{_⊕_, bits, whole}
 use Rattle.order.specs.Order.{below, fractionOf, topRung}
 use Rattle.recurrence.specs.declared.Function.{Function}
 use Rattle.recurrence.specs.declared.Function.the-variants.{D, «V»}
-use Rattle.rungs.specs.Branches.{runsForward}
-use Rattle.tables.specs.Tables.{refusalBy}
+use Rattle.branches.specs.Branches.{runsForward}
+use Rattle.table_refusals.specs.Refusals.{refusalBy}
 pub mod Open
 
 -- ---- what it is fed

@@ -7,11 +7,11 @@ ghost use Rattle.machine.specs.Machine.{bitsOf, sameFunction, sameRungs,
 ghost use Rattle.machine.specs.Held.{countsEmpty, machineOf, verdictOf};
 use crate::Held;
 use crate::Judgement;
-use floats::abs;
-use floats::alike;
-use floats::is_nan;
 use order::Rung;
-use rungs::Function;
+use recurrence::Function;
+use signs::abs;
+use signs::alike;
+use signs::is_nan;
 
 // Whether a state with these fields counts as empty.
 fn counts_empty(held: Held) -> bool
@@ -79,7 +79,7 @@ fn may_climb(held: Held, n: Rung) -> bool
         return false;
     }
     let function = held.function;
-    rungs::runs_forward(function, held.below, held.x, held.n as f64 + held.f)
+    branches::runs_forward(function, held.below, held.x, held.n as f64 + held.f)
 }
 
 // The case, by the request's function, side, argument, fraction and n.

@@ -8,7 +8,7 @@ ghost use Rattle.machine.specs.Machine.{asks, asked, tooShort, verdict};
 ghost use Rattle.machine.specs.Held.{machineOf, verdictOf};
 use cases::case_of;
 use order::Rung;
-use rungs::Function;
+use recurrence::Function;
 
 // A ladder's fields, its two values left out.
 pub struct Held {
@@ -52,7 +52,7 @@ pub fn judge(
     let o = order::split(v);
     let n = o.n;
     let short = too_short(n, values, derivatives);
-    let number = tables::refusal_by(v, x, short);
+    let number = table_refusals::refusal_by(v, x, short);
     if number != 0 {
         return Judgement::Refused(number);
     }

@@ -3,7 +3,7 @@ use mathlib.Core.Path.{_≡_, refl, _∙_}
 use mathlib.Core.Bool.{false}
 use lib.Ieee.{Float, add, sub, mul, lt, ofBits}
 use Rattle.floats.specs.Operations.{_⊕_, _⊖_, _⊗_, bits, decimal, f0, f½, f1}
-use Rattle.floats.specs.Functions.{absolute}
+use Rattle.signs.specs.Signs.{absolute}
 use Rattle.mul_exp.specs.MulExp.{mulExp}
 use Rattle.mul_exp.proofs.Laws.{mul-exp-zero}
 use Rattle.maclaurin.specs.Constants.{ln2, smallest, scale, f600}

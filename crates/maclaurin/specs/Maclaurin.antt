@@ -8,7 +8,8 @@ use mathlib.Core.Option.{Option}
 use Prim.Native.Nat.{ℕ}
 use lib.Ieee.{Float, inf, isNan, lt, le}
 use Rattle.floats.specs.Operations.{_⊕_, _⊖_, _⊗_, _⊘_, whole, f0, f1}
-use Rattle.floats.specs.Functions.{absolute, infinite, lesser, greater}
+use Rattle.signs.specs.Signs.{absolute, infinite}
+use Rattle.extremes.specs.Extremes.{lesser, greater}
 use Rattle.floats.specs.Loops.{Turn, countUp}
 use Rattle.refusals.specs.Answer.{answerBy}
 use Rattle.mul_exp.specs.MulExp.{mulExp}

@@ -3,12 +3,12 @@
 ghost use mathlib.Core.Path.{_≡_};
 ghost use Rattle.refusals.specs.Answer.{refusalOf, pairOf};
 ghost use Rattle.maclaurin.specs.Maclaurin.{series, shortForm, pbMaclaurin, anyOf, refusal, answer};
-use floats::abs;
-use floats::is_infinite;
-use floats::is_nan;
 use mul_exp::Both;
 use mul_exp::mul_exp_both;
 use refusals::Answer;
+use signs::abs;
+use signs::is_infinite;
+use signs::is_nan;
 
 // The source's LN_2.
 const LN_2: f64 = 0.6931471805599453;
@@ -48,7 +48,7 @@ fn series(a: f64, x: f64, c0: f64, c1: f64) -> Sums
         xn = xn * x;
         d = d + cn2 * xn;
         let last = abs(term);
-        if floats::max(last, prev) <= 1e-17 * floats::min(abs(dp), abs(d) / size) {
+        if extremes::max(last, prev) <= 1e-17 * extremes::min(abs(dp), abs(d) / size) {
             return Sums { d: d, dp: dp };
         }
         prev = last;

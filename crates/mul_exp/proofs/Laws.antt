@@ -2,7 +2,7 @@
 use mathlib.Core.Path.{_≡_, refl, _∙_, ap}
 use lib.Ieee.{Float, add, mul, neg, lt, ofBits}
 use Rattle.floats.specs.Operations.{_⊗_, decimal, f0, f1}
-use Rattle.floats.specs.Functions.{absolute, signOf}
+use Rattle.signs.specs.Signs.{absolute, signOf}
 use Rattle.exponential.proofs.Laws as exponential
 use Rattle.logarithm.proofs.Laws as logarithm
 use Rattle.mul_exp.specs.MulExp.{twice, mulExp}

@@ -4,7 +4,7 @@ use mathlib.Core.Path.{_≡_, refl}
 use mathlib.Core.Bool.{cond}
 use lib.Ieee.{Float, lt, ofBits}
 use Rattle.floats.specs.Operations.{_⊕_, _⊗_, bits, decimal, f½}
-use Rattle.floats.specs.Functions.{absolute, signOf}
+use Rattle.signs.specs.Signs.{absolute, signOf}
 use Rattle.exponential.specs.Exponential.{exp}
 use Rattle.logarithm.specs.Logarithm.{ln}
 

@@ -3,7 +3,7 @@
 ghost use mathlib.Core.Path.{_≡_};
 ghost use Rattle.mul_exp.specs.MulExp.{mulExp};
 use exponential::exp;
-use floats::abs;
+use signs::abs;
 
 // Two numbers, each times e^e.
 pub struct Both {
@@ -16,7 +16,7 @@ pub fn mul_exp(m: f64, e: f64) -> f64
     ensures { λ r. ⌜ r ≡ mulExp m e ⌝ }
 {
     if abs(e) > 1400.0 {
-        return floats::signum(m) * exp(logarithm::ln(abs(m)) + e);
+        return signs::signum(m) * exp(logarithm::ln(abs(m)) + e);
     }
     let h = exp(0.5 * e);
     m * h * h

@@ -8,8 +8,8 @@ pub fn near(t: f64) -> i32
     ensures { λ r. ⌜ r ≡ near t ⌝ }
 {
     if t >= 0.0 {
-        floats::to_i32(t + 0.5)
+        truncation::to_i32(t + 0.5)
     } else {
-        floats::to_i32(t - 0.5)
+        truncation::to_i32(t - 0.5)
     }
 }

@@ -5,7 +5,7 @@ use mathlib.Core.Bool.{Bool, false}
 use lib.Ieee.{Float}
 use Rattle.recurrence.specs.declared.Function.the-variants.{D}
 use Rattle.recurrence.specs.Recurrence.{ownRungTwo}
-pub use Rattle.recurrence.specs.Recurrence.Open.{ownRungTwo-D, ownRungTwo-V-above, ownRungTwo-V-below, nextRung-is, derivative-V-below}
+pub use Rattle.recurrence.specs.Recurrence.Open.{ownRungTwo-D, ownRungTwo-V-above, ownRungTwo-V-below, nextRung-is}
 
 -- D has no rung 2 of its own
 pub no-own-two : (below : Bool) (f : Float) → ownRungTwo D below f ≡ false

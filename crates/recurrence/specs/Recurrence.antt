@@ -1,12 +1,11 @@
--- The recurrences and derivatives of D and V (01, "Upward, downward, scaled"; the source's pbdv_impl and pbvv_impl; DLMF 12.8), each operation rounded.
+-- The recurrences of D and V (01, "Upward, downward, scaled"; the source's pbdv_impl and pbvv_impl; DLMF 12.8), each operation rounded.
 -- Rung k has the order f + k on the side v ≥ 0 and f − k below 0, where `below` is true. DLMF's U(a, x) and V(a, x) have a = −order − ½; D is U.
 -- In each formula `low` and `high` are the values of two neighbouring rungs, `low` that of the lower number.
 use Prim.Native.Nat.{ℕ}
 use mathlib.Core.Bool.{Bool, true, false, _&&_, cond}
 use lib.Dec.{eqb}
 use lib.Ieee.{Float, neg, eq}
-use Rattle.floats.specs.Operations.{_⊕_, _⊖_, _⊗_, _⊘_, whole, f0, f½, f1}
-use Rattle.floats.specs.Functions.{absolute}
+use Rattle.floats.specs.Operations.{_⊕_, _⊖_, _⊗_, _⊘_, whole, f0, f1}
 use Rattle.logarithm.specs.Constants.{f2}
 use Rattle.recurrence.specs.declared.Function.{Function}
 use Rattle.recurrence.specs.declared.Function.the-variants.{D, «V»}
@@ -44,15 +43,3 @@ pub stepDown : Function → Float → Float → ℕ → Float → Float → Floa
 stepDown D x f k low high = x ⊗ low ⊕ (whole k ⊖ f ⊕ f1) ⊗ high
 -- 12.8.5 at rung k + 1, a − ½ = −(k + f + 2)
 stepDown «V» x f k low high = x ⊗ low ⊖ (whole k ⊕ f ⊕ f2) ⊗ high
-
--- ---- the derivative of rung k, from rungs k and k + 1
-
-pub derivative : Function → Bool → Float → Float → ℕ → Float → Float → Float
--- 12.8.3
-derivative D false x f k low high = f½ ⊗ x ⊗ low ⊖ high
--- 12.8.2, a + ½ = k − f, and f is not above 0
-derivative D true x f k low high = neg f½ ⊗ x ⊗ low ⊖ (absolute f ⊕ whole k) ⊗ high
--- 12.8.6, a − ½ = −(f + k + 1)
-derivative «V» false x f k low high = f½ ⊗ x ⊗ low ⊖ (f ⊕ whole k ⊕ f1) ⊗ high
--- 12.8.7
-derivative «V» true x f k low high = neg f½ ⊗ x ⊗ low ⊕ high

@@ -1,8 +1,7 @@
-// The recurrences of D and V: one step of each, and one derivative. Each function answers every input.
+// The recurrences of D and V: one step of each. Each function answers every input.
 
 ghost use mathlib.Core.Path.{_≡_};
-ghost use Rattle.recurrence.specs.Recurrence.{step, ownRungTwo, nextRung, stepDown, derivative};
-use floats::abs;
+ghost use Rattle.recurrence.specs.Recurrence.{step, ownRungTwo, nextRung, stepDown};
 use order::Rung;
 
 // Which function: D is DLMF's U, by its order.
@@ -65,34 +64,5 @@ pub fn step_down(function: Function, x: f64, f: f64, k: Rung, low: f64, high: f6
     match function {
         Function::D => x * low + (kf - f + 1.0) * high,
         Function::V => x * low - (kf + f + 2.0) * high,
-    }
-}
-
-// The derivative of rung k, from its value and that of the rung above it.
-pub fn derivative(
-    function: Function,
-    below: bool,
-    x: f64,
-    f: f64,
-    k: Rung,
-    low: f64,
-    high: f64,
-) -> f64
-    ensures { λ r. ⌜ r ≡ derivative function below x f k low high ⌝ }
-{
-    let kf = k as f64;
-    match function {
-        Function::D => {
-            if below {
-                return -0.5 * x * low - (abs(f) + kf) * high;
-            }
-            0.5 * x * low - high
-        }
-        Function::V => {
-            if below {
-                return -0.5 * x * low + high;
-            }
-            0.5 * x * low - (f + kf + 1.0) * high
-        }
     }
 }

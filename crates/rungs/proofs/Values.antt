@@ -6,25 +6,21 @@ use native.Mathlib.Omega.{arith}
 use mathlib.Core.Bool.{true, false}
 use lib.Ieee.{Float, add, mul, neg, le, eq, ofBits}
 use Rattle.floats.specs.Operations.{_⊗_, decimal, f0, f1}
-use Rattle.floats.specs.Functions.{absolute}
+use Rattle.signs.specs.Signs.{absolute}
 use Rattle.exponential.proofs.Laws.{exp-zero, exp-minus-zero}
 use Rattle.start_sums.specs.Constants.{rootTwoOverPi}
 use Rattle.small_sums.proofs.Laws.{vvsa-zero-zero}
 use Rattle.recurrence.specs.declared.Function.the-variants.{D, «V»}
-use Rattle.recurrence.specs.Recurrence.{step, nextRung, derivative}
-use Rattle.recurrence.proofs.Laws.{ownRungTwo-D, ownRungTwo-V-below, nextRung-is, derivative-V-below}
+use Rattle.recurrence.specs.Recurrence.{step, nextRung}
+use Rattle.derivatives.specs.Derivatives.{derivative}
+use Rattle.recurrence.proofs.Laws.{ownRungTwo-D, ownRungTwo-V-below, nextRung-is}
+use Rattle.derivatives.proofs.Laws.{derivative-V-below}
 use Rattle.recurrence.proofs.Values.{at}
-use Rattle.rungs.specs.declared.Branch.the-variants.{Forward}
 use Rattle.rungs.specs.Rungs.{startValue, startRungs, rung}
 use Rattle.rungs.specs.Rungs.Open.{startSum-V-small, smallLimit-V, startValue-is, gaussian-is, growth-is, startsGaussian-D-above, startsGaussian-V, startRungs-is}
-use Rattle.rungs.specs.Branches.{branchOf}
-use Rattle.rungs.specs.Branches.Open.{branchOf-D-above, branchOf-V-below}
 use Rattle.rungs.proofs.Laws.{rungs-zero-one, rung-next, own-rung-two}
 
 -- ---- D from order 0 on
-
-pub D-forward : (x u : Float) → branchOf D false x u ≡ Forward
-D-forward x u = branchOf-D-above x u
 
 d-start : startRungs D false f0 f0 ≡ (f1, f0)
 unfolding eq mul neg ofBits
@@ -61,9 +57,6 @@ pub D-rung-5 : rung D false f0 f0 5 ≡ f0
 D-rung-5 = sym (step-to 3 (neg f0) (decimal 3 0) D-rung-3 D-rung-4) ∙ plain 5 (neg f0) (decimal 3 0) ∙ at 3
 
 -- ---- V below 0
-
-pub V-forward : (x u : Float) → branchOf «V» true x u ≡ Forward
-V-forward x u = branchOf-V-below x u
 
 v-zero : startValue «V» f0 f0 ≡ f0
 unfolding le absolute ofBits

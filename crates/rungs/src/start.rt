@@ -4,10 +4,10 @@ ghost use mathlib.Core.Path.{_≡_};
 ghost use Rattle.rungs.specs.Rungs.{startSum, smallLimit, startValue, startsGaussian, nextOrder, startRungs, topRungs, seed};
 use crate::Adjacent;
 use exponential::exp;
-use floats::abs;
 use order::Rung;
 use recurrence::Function;
 use recurrence::has_own_rung_two;
+use signs::abs;
 use start_sums::constants::SQRT_FRAC_2_PI;
 
 // The function by its start sum, for large or for small arguments.

@@ -12,7 +12,7 @@ use borrow.Author.Tests.{eq-eqb, lt-ltb}
 use Rattle.floats.specs.Operations.{_⊕_, _⊖_, _⊗_, _⊘_, float, whole, f0, f½, f1}
 use Rattle.floats.proofs.Tests.{one, lt-or-ge}
 use Rattle.floats.proofs.Values.{zero-value, ofInt-pos, ofInt-value}
-use Rattle.floats.proofs.Cuts.{whole-to-i32}
+use Rattle.truncation.proofs.Cuts.{whole-to-i32}
 use Rattle.floats.proofs.Comparison.{eq-at, le-at}
 use Rattle.logarithm.specs.Constants.{root2, f2}
 use Rattle.trigonometric.specs.QuarterTurns.{orderSine}

@@ -4,7 +4,7 @@ use mathlib.Core.Bool.{true, false}
 use Prim.Native.Nat.{ℕ}
 use lib.Ieee.{Float, add, sub, mul, div, neg, lt, ofBits, ofInt}
 use Rattle.floats.specs.Operations.{bits, decimal, f0, f1}
-use Rattle.floats.specs.Functions.{absolute}
+use Rattle.signs.specs.Signs.{absolute}
 use Rattle.floats.specs.Loops.{Turn, countUp}
 use Rattle.gamma.specs.Gamma.{gamma2}
 use Rattle.gamma.proofs.Laws as gamma

@@ -8,7 +8,7 @@ use Prim.Native.Nat.{ℕ}
 use mathlib.Core.Bool.{Bool, false, cond, _&&_, _||_}
 use lib.Ieee.{Float, lt, le, eq, neg, toSigned}
 use Rattle.floats.specs.Operations.{_⊕_, _⊖_, _⊗_, _⊘_, float, whole, f0, f½, f1}
-use Rattle.floats.specs.Functions.{absolute}
+use Rattle.signs.specs.Signs.{absolute}
 use Rattle.floats.specs.Loops.{Turn, countUp}
 use Rattle.logarithm.specs.Constants.{root2}
 use Rattle.exponential.specs.Exponential.{exp, exp2}

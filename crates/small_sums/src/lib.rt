@@ -4,9 +4,9 @@ ghost use mathlib.Core.Path.{_≡_};
 ghost use Rattle.small_sums.specs.SmallSums.{isPole, dvsaAtZero, dvsaSum, dvsa, vvsaAtZero, vvsaSum, vvsa};
 use exponential::exp;
 use exponential::exp2;
-use floats::abs;
 use gamma::PI;
 use gamma::gamma2;
+use signs::abs;
 use trigonometric::sin;
 
 // The source's constants, under its names.
@@ -21,7 +21,7 @@ fn is_pole(y: f64) -> bool
     ensures { λ r. ⌜ r ≡ isPole y ⌝ }
 {
     if y <= 0.0 {
-        return y == floats::to_i32(y) as f64;
+        return y == truncation::to_i32(y) as f64;
     }
     false
 }

@@ -7,7 +7,7 @@ use Prim.Native.Nat.{ℕ}
 use mathlib.Core.Bool.{false, cond}
 use lib.Ieee.{Float, lt, neg}
 use Rattle.floats.specs.Operations.{_⊕_, _⊖_, _⊗_, _⊘_, whole, f0, f½, f1}
-use Rattle.floats.specs.Functions.{absolute}
+use Rattle.signs.specs.Signs.{absolute}
 use Rattle.floats.specs.Loops.{Turn, countUp}
 use Rattle.logarithm.specs.Constants.{f2}
 use Rattle.exponential.specs.Exponential.{exp}

@@ -4,10 +4,10 @@ ghost use mathlib.Core.Path.{_≡_};
 ghost use Rattle.start_sums.specs.StartSums.{dvlaSum, dvlaExpansion, dvlaJoined, dvla, vvlaSum, vvlaExpansion, vvlaJoined, vvla};
 use crate::constants::SQRT_FRAC_2_PI;
 use exponential::exp;
-use floats::abs;
 use gamma::PI;
 use gamma::gamma2;
 use logarithm::pow;
+use signs::abs;
 use trigonometric::cos;
 use trigonometric::sin;
 

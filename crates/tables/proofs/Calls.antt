@@ -14,45 +14,21 @@ use lib.Ieee.{Float, nan, isNan}
 use Rattle.order.specs.Order.{tooLarge, below, shifted, fractionOf, topRung, num}
 use Rattle.order.specs.Facts.{Split}
 use Rattle.order.proofs.Laws.{num-least}
+use Rattle.table_refusals.specs.Refusals.{refusalBy}
+use Rattle.table_refusals.proofs.Laws.{not-refused, accepted-by}
 use Rattle.recurrence.specs.declared.Function.{Function}
 use Rattle.rungs.specs.Branches.{value, derivativeAt}
-use Rattle.columns.specs.Filled.{filled}
-use Rattle.columns.specs.Columns.{slot, valuesIn, bothColumns}
-use Rattle.columns.proofs.Room.{room-in}
-use Rattle.columns.proofs.Tables.{values-in, both-filled}
-use Rattle.tables.specs.Tables.{refusalBy, refusal, valueOf, derivativeOf, valuesWritten, tableAfter, answer}
-use Rattle.tables.specs.Tables.Open.{refusalBy-is, refusal-is, valueOf-is, derivativeOf-is, valuesWritten-is, tableAfter-is, answer-is}
-use Rattle.columns.proofs.Filled.{length-filled, filled-in, filled-out}
-use Rattle.columns.proofs.Branches.{slot-filled}
+use Rattle.value_column.specs.Filled.{filled}
+use Rattle.value_column.specs.Slots.{slot}
+use Rattle.table_columns.specs.TableColumns.{valuesIn, bothColumns}
+use Rattle.table_columns.proofs.Room.{room-in}
+use Rattle.table_columns.proofs.Tables.{values-in, both-filled}
+use Rattle.tables.specs.Tables.{refusal, valueOf, derivativeOf, valuesWritten, tableAfter, answer}
+use Rattle.tables.specs.Tables.Open.{refusal-is, valueOf-is, derivativeOf-is, valuesWritten-is, tableAfter-is, answer-is}
+use Rattle.value_column.proofs.Filled.{length-filled, filled-in, filled-out}
+use Rattle.value_column.proofs.Branches.{slot-filled}
 
--- ---- the refusals, by the outcomes of the tests
-
-module _ (v x : Float) (short : Bool) where
-  pub refused-order : isNan v ≡ true → 1 ≡ refusalBy v x short
-  refused-order a = rw (refusalBy-is v x short, a)
-
-  pub refused-argument : isNan v ≡ false → isNan x ≡ true → 1 ≡ refusalBy v x short
-  refused-argument a b = rw (refusalBy-is v x short, a, b)
-
-  pub refused-size : isNan v ≡ false → isNan x ≡ false → tooLarge v ≡ true → 2 ≡ refusalBy v x short
-  refused-size a b c = rw (refusalBy-is v x short, a, b, c)
-
-  pub refused-short : isNan v ≡ false → isNan x ≡ false → tooLarge v ≡ false → short ≡ true → 3 ≡ refusalBy v x short
-  refused-short a b c d = rw (refusalBy-is v x short, a, b, c, d)
-
-  pub not-refused : isNan v ≡ false → isNan x ≡ false → tooLarge v ≡ false → short ≡ false → 0 ≡ refusalBy v x short
-  not-refused a b c d = rw (refusalBy-is v x short, a, b, c, d)
-
-  -- a request that is not refused
-  pub accepted-by : refusalBy v x short ≡ 0 → (isNan v ≡ false) × (isNan x ≡ false) × (tooLarge v ≡ false) × (short ≡ false)
-  accepted-by e = passed (isNan v) (isNan x) (tooLarge v) short (sym (refusalBy-is v x short) ∙ e)
-    where
-      passed : (a b c d : Bool) → _≡_ {A = ℕ} (cond (a || b) 1 (cond c 2 (cond d 3 0))) 0 → (a ≡ false) × (b ≡ false) × (c ≡ false) × (d ≡ false)
-      passed true b c d e = absurd (omega arith)
-      passed false true c d e = absurd (omega arith)
-      passed false false true d e = absurd (omega arith)
-      passed false false false true e = absurd (omega arith)
-      passed false false false false e = (refl, refl, refl, refl)
+-- ---- the refusal
 
 module _ (v x : Float) (slots : ℕ) where
   pub refusal-short : refusalBy v x (ltb slots (2 * num v)) ≡ refusal v x slots

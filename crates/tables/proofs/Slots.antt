@@ -14,14 +14,14 @@ use Rattle.order.proofs.Facts.{split-facts}
 use Rattle.order.proofs.Laws.{num-least}
 use Rattle.recurrence.specs.declared.Function.{Function}
 use Rattle.recurrence.specs.Recurrence.{ownRungTwo}
-use Rattle.columns.specs.Filled.{filled}
-use Rattle.columns.specs.Columns.{slot}
+use Rattle.value_column.specs.Filled.{filled}
+use Rattle.value_column.specs.Slots.{slot}
 use Rattle.tables.specs.Tables.{refusal, valueOf, derivativeOf, valuesWritten, tableAfter}
 use Rattle.tables.specs.Tables.Open.{valuesWritten-is}
 use Rattle.tables.specs.Slots.{Slots, Untouched}
-use Rattle.columns.proofs.Filled.{filled-out}
-use Rattle.columns.proofs.Branches.{slot-filled}
-use Rattle.columns.proofs.Tables.{three-values}
+use Rattle.value_column.proofs.Filled.{filled-out}
+use Rattle.value_column.proofs.Branches.{slot-filled}
+use Rattle.table_columns.proofs.Tables.{three-values}
 use Rattle.tables.proofs.Calls.{accepted, left-as-found, after-accepted, answer-accepted, table-keeps, value-slot, derivative-slot}
 
 module _ (fn : Function) (v x : Float) (l : List Float) where

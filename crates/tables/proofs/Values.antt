@@ -12,21 +12,24 @@ use Rattle.floats.specs.Operations.{bits, decimal, f0, f1}
 use Rattle.order.specs.Order.{f1000, below, shifted, fractionOf, topRung, num}
 use Rattle.order.specs.Order.Examples.{Parts, parts}
 use Rattle.order.proofs.Laws.{order-zero, order-one, order-two, order-minus-one, order-1000, order-999½, order-below-one, order-tiny-below, order-four, large, side, part, top, columns}
+use Rattle.table_refusals.proofs.Laws.{of-numbers}
 use Rattle.start_sums.specs.Constants.{rootTwoOverPi}
 use Rattle.recurrence.specs.declared.Function.{Function}
 use Rattle.recurrence.specs.declared.Function.the-variants.{D, «V»}
-use Rattle.recurrence.specs.Recurrence.{derivative}
+use Rattle.derivatives.specs.Derivatives.{derivative}
 use Rattle.recurrence.proofs.Laws.{no-own-two}
-use Rattle.recurrence.proofs.Values.{D-derivative-0, D-derivative-1, D-derivative-2, D-derivative-4, V-own-two}
-use Rattle.rungs.specs.declared.Branch.the-variants.{Forward}
-use Rattle.rungs.specs.Branches.{branchOf}
+use Rattle.recurrence.proofs.Values.{V-own-two}
+use Rattle.derivatives.proofs.Values.{D-derivative-0, D-derivative-1, D-derivative-2, D-derivative-4}
+use Rattle.branches.specs.declared.Branch.the-variants.{Forward}
+use Rattle.branches.specs.Branches.{branchOf}
 use Rattle.rungs.specs.Rungs.{rung}
 use Rattle.rungs.proofs.Laws.{value-forward, derivative-at}
-use Rattle.rungs.proofs.Values.{D-forward, D-rung-0, D-rung-1, D-rung-2, D-rung-3, D-rung-4, D-rung-5, V-forward, V-rung-0, V-rung-1, V-rung-2, V-derivative-0, V-derivative-1}
-use Rattle.columns.specs.Filled.{filled}
-use Rattle.columns.proofs.Tables.{three-values, plain-values}
+use Rattle.branches.proofs.Laws.{D-forward, V-forward}
+use Rattle.rungs.proofs.Values.{D-rung-0, D-rung-1, D-rung-2, D-rung-3, D-rung-4, D-rung-5, V-rung-0, V-rung-1, V-rung-2, V-derivative-0, V-derivative-1}
+use Rattle.value_column.specs.Filled.{filled}
+use Rattle.table_columns.proofs.Tables.{three-values, plain-values}
 use Rattle.tables.specs.Tables.{refusal, valueOf, derivativeOf, valuesWritten, tableAfter, answer}
-use Rattle.tables.specs.Tables.Open.{refusalBy-is, refusal-is, valueOf-is, derivativeOf-is, valuesWritten-is, tableAfter-is, answer-is}
+use Rattle.tables.specs.Tables.Open.{refusal-is, valueOf-is, derivativeOf-is, valuesWritten-is, tableAfter-is, answer-is}
 
 -- ---- a forward branch at x = 0 and f = 0: its columns are its rungs
 
@@ -47,7 +50,7 @@ module _ (fn : Function) (s : Bool) (v : Float) (p : Parts) (e : parts v ≡ p) 
 
 module _ (v x : Float) (slots : ℕ) (p : Parts) (e : parts v ≡ p) (number : isNan v ≡ false) (argument : isNan x ≡ false) where
   refused-as : refusal v x slots ≡ cond (p .0) 2 (cond (ltb slots (2 * (p .5))) 3 0)
-  refused-as = rw (refusal-is v x slots, refusalBy-is v x (ltb slots (2 * num v)), number, argument, large v p e, columns v p e)
+  refused-as = rw (refusal-is v x slots, of-numbers v x (ltb slots (2 * num v)) number argument, large v p e, columns v p e)
 
   -- the answer of one that is not
   answered-as : (fn : Function) → _≡_ {A = ℕ} (cond (p .0) 2 (cond (ltb slots (2 * (p .5))) 3 0)) 0 → answer fn v x slots ≡ some (valueOf fn v x (p .4 - 1), derivativeOf fn v x (p .4 - 1))
@@ -143,7 +146,7 @@ P8 =
 
 pub P9 : (x : Float) (slots : ℕ) → isNan x ≡ false → refusal f1000 x slots ≡ 2
 unfolding isNan ofBits
-P9 x slots number = rw (refusal-is f1000 x slots, refusalBy-is f1000 x (ltb slots (2 * num f1000)), number, order-1000 .0)
+P9 x slots number = rw (refusal-is f1000 x slots, of-numbers f1000 x (ltb slots (2 * num f1000)) refl number, order-1000 .0)
 
 -- ---- P10: v = 999.5 needs 2004 slots
 

@@ -10,7 +10,7 @@ use lib.Ieee.{Float}
 use Rattle.order.specs.Order.{below, fractionOf, topRung, num}
 use Rattle.recurrence.specs.declared.Function.{Function}
 use Rattle.recurrence.specs.Recurrence.{ownRungTwo}
-use Rattle.columns.specs.Columns.{slot}
+use Rattle.value_column.specs.Slots.{slot}
 use Rattle.tables.specs.Tables.{valueOf, derivativeOf, valuesWritten, tableAfter, answer}
 
 -- a request that is not refused, with l the table before it

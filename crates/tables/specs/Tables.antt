@@ -3,25 +3,22 @@
 use mathlib.Core.List.{List}
 use mathlib.Core.Option.{Option}
 use Prim.Native.Nat.{ℕ, _-_, _*_}
-use mathlib.Core.Bool.{Bool, _||_, cond}
+use mathlib.Core.Bool.{cond}
 use lib.Dec.{eqb, ltb}
 use lib.ListN.{length}
-use lib.Ieee.{Float, isNan}
+use lib.Ieee.{Float}
 use Rattle.refusals.specs.Answer.{answerBy}
-use Rattle.order.specs.Order.{tooLarge, below, shifted, fractionOf, topRung, num}
+use Rattle.order.specs.Order.{below, shifted, fractionOf, topRung, num}
+use Rattle.table_refusals.specs.Refusals.{refusalBy}
 use Rattle.recurrence.specs.declared.Function.{Function}
 use Rattle.rungs.specs.Branches.{value, derivativeAt}
-use Rattle.columns.specs.Filled.{filled}
-use Rattle.columns.specs.Columns.{valuesIn}
+use Rattle.value_column.specs.Filled.{filled}
+use Rattle.table_columns.specs.TableColumns.{valuesIn}
 pub mod Open
 
 -- ---- a request: a function, an order v, an argument x, and a table
 
--- the refusals of tables and ladder, by rising number: a NaN, the size of v, a table that is too short
-pub refusalBy : Float → Float → Bool → ℕ
-refusalBy v x short = cond (isNan v || isNan x) 1 (cond (tooLarge v) 2 (cond short 3 0))
-
--- the table call's: a table below 2·num slots is too short
+-- a table below 2·num slots is too short
 pub refusal : Float → Float → ℕ → ℕ
 refusal v x slots = refusalBy v x (ltb slots (2 * num v))
 

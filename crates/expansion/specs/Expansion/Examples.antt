@@ -5,7 +5,7 @@ use mathlib.Core.List.{List, [], _∷_, map}
 use Prim.Native.Nat.{ℕ}
 use lib.Ieee.{nan, inf, isNan, neg, lt, le, eq, ofBits}
 use Rattle.floats.specs.Operations.{bits, decimal, f0, f1}
-use Rattle.floats.specs.Functions.{infinite}
+use Rattle.signs.specs.Signs.{infinite}
 use Rattle.expansion.specs.Expansion.{refusal}
 
 -- the refusal of an order and an argument, and its number

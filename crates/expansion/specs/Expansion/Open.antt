@@ -4,7 +4,7 @@ use mathlib.Core.Bool.{Bool, true, false, not, _&&_, _||_, cond}
 use Prim.Native.Nat.{ℕ}
 use native.Mathlib.Omega.{arith}
 use lib.Ieee.{Float, isNan, lt, le, neg}
-use Rattle.floats.specs.Functions.{infinite}
+use Rattle.signs.specs.Signs.{infinite}
 use Rattle.refusals.specs.Answer.{answerBy}
 use Rattle.mul_exp.specs.MulExp.{mulExp}
 use Rattle.expansion.specs.Constants.{beyond, f20}

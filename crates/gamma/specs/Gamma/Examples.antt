@@ -6,7 +6,8 @@ use mathlib.Core.Bool.{true, false}
 use mathlib.Core.List.{List, [], _∷_, map}
 use lib.Ieee.{Float, nan, inf, add, sub, mul, div, neg, lt, eq, ofBits, ofInt, toSigned}
 use Rattle.floats.specs.Operations.{bits, decimal, f0, f1}
-use Rattle.floats.specs.Functions.{absolute, infinite, truncated, fraction}
+use Rattle.signs.specs.Signs.{absolute, infinite}
+use Rattle.truncation.specs.Truncation.{truncated, fraction}
 use Rattle.floats.specs.Loops.{countUp}
 use Rattle.gamma.specs.Constants.{poleValue}
 use Rattle.gamma.specs.Gamma.{productTurn, factorial, falling, polynomial, reciprocalSeries, gammaNear, gammaAbove, gamma2}

@@ -3,7 +3,8 @@ use mathlib.Core.Path.{_≡_}
 use mathlib.Core.Bool.{true, false}
 use lib.Ieee.{Float, lt, eq, toSigned}
 use Rattle.floats.specs.Operations.{_⊖_, f0, f1}
-use Rattle.floats.specs.Functions.{absolute, truncated}
+use Rattle.signs.specs.Signs.{absolute}
+use Rattle.truncation.specs.Truncation.{truncated}
 use Rattle.gamma.specs.Constants.{poleValue}
 use Rattle.gamma.specs.Gamma.{lastOf, factorial, gammaNear, gammaAbove, reflected, gamma2}
 

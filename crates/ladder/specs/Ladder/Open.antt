@@ -8,8 +8,9 @@ use lib.Ieee.{Float}
 use Rattle.floats.specs.Operations.{f0}
 use Rattle.order.specs.Order.{below, fractionOf, topRung}
 use Rattle.recurrence.specs.declared.Function.the-variants.{D}
-use Rattle.recurrence.specs.Recurrence.{step, derivative}
-use Rattle.columns.specs.Filled.{filled}
+use Rattle.recurrence.specs.Recurrence.{step}
+use Rattle.derivatives.specs.Derivatives.{derivative}
+use Rattle.value_column.specs.Filled.{filled}
 use Rattle.tables.specs.Tables.{valueOf, derivativeOf}
 use Rattle.machine.specs.Machine.{Request, asked, refuses, repeats, climbs, startsOver, written, verdict}
 use Rattle.machine.specs.Held.{machineOf}

@@ -4,7 +4,7 @@ use mathlib.Core.Bool.{_||_, cond}
 use lib.Dec.{eqb, ltb}
 use lib.Ieee.{isNan, le}
 use Rattle.floats.specs.Operations.{f1}
-use Rattle.floats.specs.Functions.{absolute}
+use Rattle.signs.specs.Signs.{absolute}
 use Rattle.machine.specs.declared.Held.{Held}
 use Rattle.machine.specs.Machine.{empty, holds, bitsOf}
 use Rattle.machine.specs.Held.{countsEmpty, machineOf}

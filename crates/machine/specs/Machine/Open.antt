@@ -10,8 +10,8 @@ use Rattle.floats.specs.Operations.{_⊕_, bits, whole}
 use Rattle.order.specs.Order.{below, fractionOf, topRung}
 use Rattle.recurrence.specs.declared.Function.{Function}
 use Rattle.recurrence.specs.declared.Function.the-variants.{D, «V»}
-use Rattle.rungs.specs.Branches.{runsForward}
-use Rattle.tables.specs.Tables.{refusalBy}
+use Rattle.branches.specs.Branches.{runsForward}
+use Rattle.table_refusals.specs.Refusals.{refusalBy}
 use Rattle.machine.specs.Machine.{Request, Feed, asked, tooShort, refusal, Machine, empty, holds, bitsOf, holding, refuses, repeats, climbs, startsOver, written, sameFunction, sameRungs, mayClimb, caseBy, caseOf, verdict, next, verdicts, after}
 
 pub tooShort-is : (n values derivatives : ℕ) → tooShort n values derivatives ≡ (ltb values (n + 1) || ltb derivatives n)

@@ -1,7 +1,7 @@
 -- `maclaurin::refusal` meets its contract: the two tests, over all five inputs, pick the number.
 use mathlib.Core.Path.{_≡_}
 use lib.Ieee.{isNan}
-use Rattle.floats.specs.Functions.{infinite}
+use Rattle.signs.specs.Signs.{infinite}
 use Rattle.maclaurin.specs.Maclaurin.{anyInput}
 use Rattle.maclaurin.specs.Maclaurin.Open.{with-nan, with-infinity, accepted}
 use Rattle.maclaurin.proofs.refusal.Statement.{statement}

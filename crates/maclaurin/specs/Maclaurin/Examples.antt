@@ -4,7 +4,8 @@ use mathlib.Core.Path.{_≡_, refl}
 use mathlib.Core.List.{List, [], _∷_, map}
 use lib.Ieee.{Float, isNan, add, mul, div, neg, lt, le, eq, ofBits, ofInt}
 use Rattle.floats.specs.Operations.{bits, decimal, f0, f½, f1}
-use Rattle.floats.specs.Functions.{absolute, lesser, greater}
+use Rattle.signs.specs.Signs.{absolute}
+use Rattle.extremes.specs.Extremes.{lesser, greater}
 use Rattle.floats.specs.Loops.{countUp}
 use Rattle.maclaurin.specs.Maclaurin.{turn, series}
 

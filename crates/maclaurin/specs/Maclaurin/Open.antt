@@ -2,7 +2,7 @@
 use mathlib.Core.Path.{_≡_, refl}
 use mathlib.Core.Bool.{true, false}
 use lib.Ieee.{Float, isNan, lt}
-use Rattle.floats.specs.Functions.{absolute, infinite}
+use Rattle.signs.specs.Signs.{absolute, infinite}
 use Rattle.refusals.specs.Answer.{answerBy}
 use Rattle.mul_exp.specs.MulExp.{mulExp}
 use Rattle.maclaurin.specs.Constants.{smallest}

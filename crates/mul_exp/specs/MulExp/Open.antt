@@ -3,7 +3,7 @@ use mathlib.Core.Path.{_≡_}
 use mathlib.Core.Bool.{true, false}
 use lib.Ieee.{Float, lt}
 use Rattle.floats.specs.Operations.{_⊕_, _⊗_, f½}
-use Rattle.floats.specs.Functions.{absolute, signOf}
+use Rattle.signs.specs.Signs.{absolute, signOf}
 use Rattle.exponential.specs.Exponential.{exp}
 use Rattle.logarithm.specs.Logarithm.{ln}
 use Rattle.mul_exp.specs.MulExp.{largest, twice, mulExp}

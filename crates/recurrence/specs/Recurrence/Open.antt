@@ -4,12 +4,11 @@ use Prim.Native.Nat.{ℕ}
 use mathlib.Core.Bool.{Bool, true, false, _&&_, cond}
 use lib.Dec.{eqb}
 use lib.Ieee.{Float, neg, eq}
-use Rattle.floats.specs.Operations.{_⊕_, _⊖_, _⊗_, _⊘_, whole, f0, f½, f1}
-use Rattle.floats.specs.Functions.{absolute}
+use Rattle.floats.specs.Operations.{_⊕_, _⊖_, _⊗_, _⊘_, whole, f0, f1}
 use Rattle.logarithm.specs.Constants.{f2}
 use Rattle.recurrence.specs.declared.Function.{Function}
 use Rattle.recurrence.specs.declared.Function.the-variants.{D, «V»}
-use Rattle.recurrence.specs.Recurrence.{step, ownRungTwo, nextRung, stepDown, derivative}
+use Rattle.recurrence.specs.Recurrence.{step, ownRungTwo, nextRung, stepDown}
 
 pub step-D-above : (x : Float) (f : Float) (k : ℕ) (low : Float) (high : Float) → step D false x f k low high ≡ x ⊗ high ⊖ (whole k ⊕ f ⊖ f1) ⊗ low
 unfolding step
@@ -50,19 +49,3 @@ stepDown-D x f k low high = refl
 pub stepDown-V : (x : Float) (f : Float) (k : ℕ) (low : Float) (high : Float) → stepDown «V» x f k low high ≡ x ⊗ low ⊖ (whole k ⊕ f ⊕ f2) ⊗ high
 unfolding stepDown
 stepDown-V x f k low high = refl
-
-pub derivative-D-above : (x : Float) (f : Float) (k : ℕ) (low : Float) (high : Float) → derivative D false x f k low high ≡ f½ ⊗ x ⊗ low ⊖ high
-unfolding derivative
-derivative-D-above x f k low high = refl
-
-pub derivative-D-below : (x : Float) (f : Float) (k : ℕ) (low : Float) (high : Float) → derivative D true x f k low high ≡ neg f½ ⊗ x ⊗ low ⊖ (absolute f ⊕ whole k) ⊗ high
-unfolding derivative
-derivative-D-below x f k low high = refl
-
-pub derivative-V-above : (x : Float) (f : Float) (k : ℕ) (low : Float) (high : Float) → derivative «V» false x f k low high ≡ f½ ⊗ x ⊗ low ⊖ (f ⊕ whole k ⊕ f1) ⊗ high
-unfolding derivative
-derivative-V-above x f k low high = refl
-
-pub derivative-V-below : (x : Float) (f : Float) (k : ℕ) (low : Float) (high : Float) → derivative «V» true x f k low high ≡ neg f½ ⊗ x ⊗ low ⊕ high
-unfolding derivative
-derivative-V-below x f k low high = refl

@@ -1,6 +1,6 @@
 -- `roots::nearest_root` meets its contract: a root that is certified is nearest, and so is the one by digits. Of the guess only that it is no NaN is known.
 use native.Mathlib.Omega.{arith}
-use Rattle.floats.proofs.Signs.{no-nan}
+use Rattle.signs.proofs.Signs.{no-nan}
 use Rattle.roots.proofs.RootPatterns.{no-nan-pattern}
 use Rattle.roots.proofs.RootScale.{radicand-bounds}
 use Rattle.roots.proofs.nearest_root.Statement.{statement}

@@ -2,7 +2,7 @@
 use mathlib.Core.Path.{_∙_}
 use native.Mathlib.Omega.{arith}
 use borrow.Author.Needs.{needs}
-use Rattle.floats.proofs.Signs.{no-nan}
+use Rattle.signs.proofs.Signs.{no-nan}
 use Rattle.roots.proofs.RootPatterns.{root-of-nan, root-below-zero, root-of-zero, root-of-itself, root-above-zero, root-no-nan, zero-over-zero}
 use Rattle.roots.proofs.square_root.Statement.{statement}
 use Rattle.roots.proofs.square_root.Tie as tie

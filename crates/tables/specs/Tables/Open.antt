@@ -3,21 +3,18 @@ use mathlib.Core.Path.{_≡_, refl}
 use mathlib.Core.List.{List}
 use mathlib.Core.Option.{some, none}
 use Prim.Native.Nat.{ℕ, _-_, _*_}
-use mathlib.Core.Bool.{Bool, _||_, cond}
+use mathlib.Core.Bool.{cond}
 use lib.Dec.{eqb, ltb}
 use lib.ListN.{length}
-use lib.Ieee.{Float, isNan}
+use lib.Ieee.{Float}
 use Rattle.refusals.specs.Answer.{answerBy}
-use Rattle.order.specs.Order.{tooLarge, below, shifted, fractionOf, topRung, num}
+use Rattle.order.specs.Order.{below, shifted, fractionOf, topRung, num}
+use Rattle.table_refusals.specs.Refusals.{refusalBy}
 use Rattle.recurrence.specs.declared.Function.{Function}
 use Rattle.rungs.specs.Branches.{value, derivativeAt}
-use Rattle.columns.specs.Filled.{filled}
-use Rattle.columns.specs.Columns.{valuesIn}
-use Rattle.tables.specs.Tables.{refusalBy, refusal, valueOf, derivativeOf, valuesWritten, tableAfter, answer}
-
-pub refusalBy-is : (v x : Float) (short : Bool) → refusalBy v x short ≡ cond (isNan v || isNan x) 1 (cond (tooLarge v) 2 (cond short 3 0))
-unfolding refusalBy
-refusalBy-is v x short = refl
+use Rattle.value_column.specs.Filled.{filled}
+use Rattle.table_columns.specs.TableColumns.{valuesIn}
+use Rattle.tables.specs.Tables.{refusal, valueOf, derivativeOf, valuesWritten, tableAfter, answer}
 
 pub refusal-is : (v x : Float) (slots : ℕ) → refusal v x slots ≡ refusalBy v x (ltb slots (2 * num v))
 unfolding refusal

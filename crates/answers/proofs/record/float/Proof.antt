@@ -6,7 +6,7 @@ use borrow.Author.Tests.{lt-ltb, le-ltb}
 use lib.Dec.{T}
 use lib.Ieee.{nan, binary64, nanBits, ofBits, div}
 use lib.Ieee.Bits.{nanBits-is, nanBits-above}
-use Rattle.floats.proofs.Signs.{no-number}
+use Rattle.signs.proofs.Signs.{no-number}
 use Rattle.answers.proofs.record.float.Statement.{statement}
 use Rattle.answers.proofs.record.float.Tie as tie
 

@@ -4,8 +4,8 @@ use Prim.Native.Nat.{_-_, _≤_}
 use native.Mathlib.Nat.{zero-add}
 use native.Mathlib.Omega.{arith}
 use lib.ListN.{length, length-set}
-use Rattle.columns.specs.Filled.{filled}
-use Rattle.columns.proofs.Filled.{filled-more}
+use Rattle.value_column.specs.Filled.{filled}
+use Rattle.value_column.proofs.Filled.{filled-more}
 use Rattle.answers.specs.Tables.{junk, withJunk}
 use Rattle.answers.proofs.tables_answer.fill_junk.Statement.{statement}
 use Rattle.answers.proofs.tables_answer.fill_junk.Tie as tie

@@ -3,7 +3,7 @@ use mathlib.Core.Path.{refl, sym}
 use native.Mathlib.Omega.{arith}
 use lib.Ieee.{nan, div, ofBits}
 use lib.ListN.{List·getD-eq-default}
-use Rattle.columns.specs.Columns.{slot}
+use Rattle.value_column.specs.Slots.{slot}
 use Rattle.answers.proofs.tables_answer.slot_at.Statement.{statement}
 use Rattle.answers.proofs.tables_answer.slot_at.Tie as tie
 

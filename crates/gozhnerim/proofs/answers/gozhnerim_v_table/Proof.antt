@@ -13,5 +13,5 @@ gozhnerim-v-table-spec =
     (λ c κs. tt)
     (λ c. search needs)
     (λ c.
-    let t = c .before .before .before .v-table .ensures in
+    let t = c .before .before .before .table .ensures in
     (c .flat .ensures ∙ ap₂ answerOf (t .0) (t .1 .0), t .1 .1)))

@@ -5,7 +5,7 @@ use borrow.Author.Needs.{needs}
 use lib.Dec.{T}
 use lib.ListN.{length}
 use lib.Ieee.{binary64, fits}
-use Rattle.columns.specs.Columns.{slot}
+use Rattle.value_column.specs.Slots.{slot}
 use Rattle.machine.specs.Machine.{asks}
 use Rattle.ladder.proofs.Starts.{order-room, started-values, started-derivatives, started-state}
 use Rattle.ladder.proofs.actions.start_over.Statement.{statement}

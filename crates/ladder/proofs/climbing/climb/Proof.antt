@@ -7,7 +7,7 @@ use native.Mathlib.Omega.{arith}
 use lib.ListN.{length, length-set}
 use lib.Ieee.{Float}
 use Rattle.recurrence.specs.declared.Function.{Function}
-use Rattle.columns.specs.Filled.{filled}
+use Rattle.value_column.specs.Filled.{filled}
 use Rattle.ladder.specs.declared.Ladder.{Ladder}
 use Rattle.ladder.specs.Ladder.{carried, carriedValue, carriedDerivative}
 use Rattle.ladder.proofs.Climbs.{first-low, first-high, next-low, next-high, next-value, next-derivative, climbed}

@@ -2,7 +2,7 @@
 use mathlib.Core.Path.{_≡_, sym, _∙_}
 use mathlib.Core.Bool.{true, Bool·beq}
 use borrow.Author.Tests.{not-true, not-false}
-use Rattle.floats.specs.Functions.{alike}
+use Rattle.signs.specs.Signs.{alike}
 use Rattle.machine.specs.Machine.{sameFunction}
 use Rattle.machine.proofs.Tests.{other-function, other-side, other-argument, by-fractions}
 use Rattle.machine.proofs.cases.same_rungs.Statement.{statement}

@@ -1,8 +1,0 @@
--- `floats::fract` meets its contract.
-use Rattle.floats.specs.Functions.{fraction}
-use Rattle.floats.proofs.fract.Statement.{statement}
-use Rattle.floats.proofs.fract.Tie as tie
-
-pub fract-spec : {M : Type 1} → statement M
-unfolding fraction
-fract-spec = tie.close (tie.spec (λ c κs. tt) (λ c. rw (c .trunc .ensures)))

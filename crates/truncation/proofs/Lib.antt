@@ -1,0 +1,3 @@
+pub mod Cuts
+pub mod Truncation
+pub mod Edges

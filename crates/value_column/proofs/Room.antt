@@ -1,0 +1,36 @@
+-- Whether a column has room, by the outcomes of the code's tests. Assumes nothing.
+use mathlib.Core.Path.{_≡_, refl, sym, _∙_}
+use mathlib.Core.Bool.{Bool, true, false, _&&_, true≢false}
+use Prim.Native.Nat.{ℕ, _≤_, _<_}
+use borrow.Author.Tests.{lt-ltb, le-leb, lt-leb, leb-true, ltb-true}
+use lib.Dec.{leb, ltb}
+use Rattle.value_column.specs.ValueColumn.{roomUpTo}
+
+-- two tests of a conjunction
+pub both : (a b : Bool) → (a && b) ≡ true → (a ≡ true) × (b ≡ true)
+both true true e = (refl, refl)
+both true false e = absurd (true≢false (sym e))
+both false b e = absurd (true≢false (sym e))
+
+module _ (n slots : ℕ) where
+  pub no-rung : n < 1 → false ≡ roomUpTo n slots
+  unfolding roomUpTo
+  no-rung h = rw (lt-leb 1 n h)
+
+  pub too-many : 1 ≤ n → 1000 < n → false ≡ roomUpTo n slots
+  unfolding roomUpTo
+  too-many h g = rw (le-leb 1 n h, lt-leb n 1000 g)
+
+  pub by-slots : 1 ≤ n → n ≤ 1000 → ltb n slots ≡ roomUpTo n slots
+  unfolding roomUpTo
+  by-slots h g = rw (le-leb 1 n h, le-leb n 1000 g)
+
+  pub room-up-to : 1 ≤ n → n ≤ 1000 → n < slots → roomUpTo n slots ≡ true
+  room-up-to h g s = sym (by-slots h g) ∙ lt-ltb n slots s
+
+  pub room-facts : roomUpTo n slots ≡ true → (1 ≤ n) × (n ≤ 1000) × (n < slots)
+  unfolding roomUpTo
+  room-facts e =
+      let q = both (leb 1 n && leb n 1000) (ltb n slots) e in
+      let r = both (leb 1 n) (leb n 1000) (q .0) in
+      (leb-true 1 n (r .0), leb-true n 1000 (r .1), ltb-true n slots (q .1))

@@ -1,0 +1,3 @@
+pub mod Filled
+pub mod Slots
+pub mod ValueColumn

@@ -1,0 +1,75 @@
+// The value column of the forward branches.
+
+ghost use mathlib.Core.Path.{_≡_};
+ghost use Prim.Native.Nat.{_+_, _-_, _≤_, _<_};
+ghost use lib.ListN.{length, set};
+ghost use Rattle.rungs.specs.Rungs.{rung};
+ghost use Rattle.value_column.specs.Filled.{filled};
+use order::Rung;
+use recurrence::Function;
+
+// Stores slots 0 and 1.
+fn store_start(t: &mut [f64], low: f64, high: f64)
+    requires { ⌜ 1 < length (now t) ⌝ }
+    ensures { λ _. ⌜ now (t .exit) ≡ set (set (now (t .entry)) 0 low) 1 high ⌝ }
+{
+    t[0] = low;
+    t[1] = high;
+}
+
+// Stores slot 2.
+fn store_two(t: &mut [f64], value: f64)
+    requires { ⌜ 2 < length (now t) ⌝ }
+    ensures { λ _. ⌜ now (t .exit) ≡ set (now (t .entry)) 2 value ⌝ }
+{
+    t[2] = value;
+}
+
+// Stores rungs 3 to n, each from the two below it; low and high are rungs 1 and 2.
+fn climb(
+    t: &mut [f64],
+    function: Function,
+    below: bool,
+    x: f64,
+    f: f64,
+    n: Rung,
+    low: f64,
+    high: f64,
+)
+    requires first { ⌜ low ≡ rung function below x f 1 ⌝ }
+    requires second { ⌜ high ≡ rung function below x f 2 ⌝ }
+    requires some { ⌜ 2 ≤ n ⌝ }
+    requires few { ⌜ n ≤ 1000 ⌝ }
+    requires room { ⌜ n < length (now t) ⌝ }
+    ensures { λ _. ⌜ now (t .exit) ≡ filled (rung function below x f) 3 3 (n - 2) (now (t .entry)) ⌝ }
+{
+    let mut a = low;
+    let mut b = high;
+    let end = n + 1;
+    for k in 3..end {
+        let r = recurrence::step(function, below, x, f, k, a, b);
+        let at = k as usize;
+        t[at] = r;
+        a = b;
+        b = r;
+    }
+}
+
+// Stores rungs 0 to n.
+pub(crate) fn forward(t: &mut [f64], function: Function, below: bool, x: f64, f: f64, n: Rung)
+    requires some { ⌜ 1 ≤ n ⌝ }
+    requires few { ⌜ n ≤ 1000 ⌝ }
+    requires room { ⌜ n < length (now t) ⌝ }
+    ensures { λ _. ⌜ now (t .exit) ≡ filled (rung function below x f) 0 0 (n + 1) (now (t .entry)) ⌝ }
+{
+    let start = rungs::start_rungs(function, below, x, f);
+    let low = start.low;
+    let high = start.high;
+    store_start(t, low, high);
+    if n < 2 {
+        return;
+    }
+    let two = recurrence::rung_two(function, below, x, f, low, high);
+    store_two(t, two);
+    climb(t, function, below, x, f, n, high, two);
+}

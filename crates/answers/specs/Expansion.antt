@@ -10,6 +10,7 @@ use Rattle.floats.specs.Operations.{whole, bits, f0, f½, f1}
 use Rattle.gamma_ratio.specs.GammaRatio.{log1pmx, lgamStirlingCorr, lnGammaRatio}
 use Rattle.mul_exp.specs.MulExp.{mulExp}
 use Rattle.polynomials.specs.Polynomials.{uSum, vSum}
+use Rattle.elementary_expansion.specs.Mantissas.{mantissas}
 use Rattle.expansion.specs.Expansion as expansion
 use Rattle.maclaurin.specs.Maclaurin as maclaurin
 use Rattle.answers.specs.Tables.{partOf}
@@ -44,8 +45,8 @@ sumAt part t w = cond (eqb part 0) (uSum t w) (vSum t w)
 
 unfoldable pub mantissaAt : ℕ → Float → Float → Float
 mantissaAt part v x =
-    cond (eqb part 0) (expansion.mantissas v x .0)
-    (cond (eqb part 1) (expansion.mantissas v x .1) (expansion.mantissas v x .2))
+    cond (eqb part 0) (mantissas v x .0)
+    (cond (eqb part 1) (mantissas v x .1) (mantissas v x .2))
 
 -- of a request: place 64 is the refusal number, 65 the value, 66 the derivative
 unfoldable pub requestAt : ℕ → ℕ → Option (Float × Float) → Float

@@ -45,7 +45,7 @@ fn sum_at(part: u64, t: f64, w: f64) -> f64
 fn mantissa_at(part: u64, v: f64, x: f64) -> f64
     ensures { λ r. ⌜ r ≡ mantissaAt part v x ⌝ }
 {
-    let m = expansion::pbdv_elementary(v, x);
+    let m = elementary_expansion::pbdv_elementary(v, x);
     if part == 0 {
         return m.value;
     }

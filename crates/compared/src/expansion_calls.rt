@@ -6,6 +6,7 @@ ghost use lib.Dec.{eqb};
 ghost use Rattle.gamma_ratio.specs.GammaRatio.{log1pmx, lgamStirlingCorr, lnGammaRatio};
 ghost use Rattle.mul_exp.specs.MulExp.{mulExp};
 ghost use Rattle.polynomials.specs.Polynomials.{uvPoly, uSum, vSum};
+ghost use Rattle.elementary_expansion.specs.Mantissas.{mantissas};
 ghost use Rattle.expansion.specs.Expansion as expanded;
 
 // The sums of u_s and of v_s.
@@ -73,11 +74,11 @@ pub extern "C" fn compared_uv_sums(t: f64, w: f64) -> ComparedSums
 
 #[no_mangle]
 pub extern "C" fn compared_pbdv_elementary(v: f64, x: f64) -> ComparedMantissas
-    ensures value { λ r. ⌜ r .value ≡ expanded.mantissas v x .0 ⌝ }
-    ensures derivative { λ r. ⌜ r .derivative ≡ expanded.mantissas v x .1 ⌝ }
-    ensures exponent { λ r. ⌜ r .exponent ≡ expanded.mantissas v x .2 ⌝ }
+    ensures value { λ r. ⌜ r .value ≡ mantissas v x .0 ⌝ }
+    ensures derivative { λ r. ⌜ r .derivative ≡ mantissas v x .1 ⌝ }
+    ensures exponent { λ r. ⌜ r .exponent ≡ mantissas v x .2 ⌝ }
 {
-    let m = expansion::pbdv_elementary(v, x);
+    let m = elementary_expansion::pbdv_elementary(v, x);
     ComparedMantissas {
         value: m.value,
         derivative: m.derivative,

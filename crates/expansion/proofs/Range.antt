@@ -18,7 +18,7 @@ use Rattle.floats.proofs.Comparison.{lt-at, le-at, signedLe-of-test, test-of-si
 use Rattle.floats.proofs.Bounds.{value-between, neg-between, plus-between, apart-between}
 use Rattle.near.proofs.NearRange.{half-value}
 use Rattle.expansion.specs.Constants.{beyond, f20}
-use Rattle.expansion.specs.Expansion.{parameter}
+use Rattle.elementary_expansion.specs.Mantissas.{parameter}
 use Rattle.expansion.specs.Expansion.Open.{in-range}
 use Rattle.expansion.specs.Range.{f13, stirlingArgument, Accepted, Near}
 

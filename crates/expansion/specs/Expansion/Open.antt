@@ -7,8 +7,9 @@ use lib.Ieee.{Float, isNan, lt, le, neg}
 use Rattle.signs.specs.Signs.{infinite}
 use Rattle.refusals.specs.Answer.{answerBy}
 use Rattle.mul_exp.specs.MulExp.{mulExp}
+use Rattle.elementary_expansion.specs.Mantissas.{mantissas}
 use Rattle.expansion.specs.Constants.{beyond, f20}
-use Rattle.expansion.specs.Expansion.{parameter, clamped, mantissasBy, mantissas, refusal, pairBy, answer}
+use Rattle.expansion.specs.Expansion.{refusal, pairBy, answer}
 
 one-not-zero : _≡_ {A = ℕ} 1 0 → ⊥
 one-not-zero h = omega arith
@@ -24,10 +25,6 @@ both-pass true false b i h = absurd (one-not-zero h)
 both-pass false false b i h = absurd (four-not-zero h)
 
 module _ (v x : Float) where
-  pub mantissas-are : mantissas v x ≡ mantissasBy (parameter v) (clamped x)
-  unfolding mantissas
-  mantissas-are = refl
-
   -- the refusal's number, test by test
   pub order-nan : isNan v ≡ true → refusal v x ≡ 1
   unfolding refusal

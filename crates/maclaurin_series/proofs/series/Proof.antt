@@ -1,4 +1,4 @@
--- `maclaurin::series` meets its contract: the turns that are left lead to the sums.
+-- `maclaurin_series::series` meets its contract: the turns that are left lead to the sums.
 use mathlib.Core.Path.{_≡_, refl, ap}
 use mathlib.Core.Bool.{false}
 use Prim.Native.Nat.{_-_}
@@ -6,9 +6,9 @@ use native.Mathlib.Omega.{arith}
 use lib.Ieee.{Float, div, ofBits}
 use Rattle.floats.specs.Loops.{countUp}
 use Rattle.floats.proofs.Loops.{goes, stops, done}
-use Rattle.maclaurin.specs.Maclaurin.{State, turn, series}
-use Rattle.maclaurin.proofs.series.Statement.{statement}
-use Rattle.maclaurin.proofs.series.Tie as tie
+use Rattle.maclaurin_series.specs.Series.{State, turn, series}
+use Rattle.maclaurin_series.proofs.series.Statement.{statement}
+use Rattle.maclaurin_series.proofs.series.Tie as tie
 
 abbrev Inv-loop : tie.InvT-loop
 Inv-loop a x c0 c1 size b0₀ b1₀ b2₀ b3₀ d₀ dp₀ xn₀ prev₀ n₀ b0 b1 b2 b3 d dp xn prev n =

@@ -1,7 +1,7 @@
--- `maclaurin::pb_maclaurin` meets its contract: each return is the case that the test picks.
-use Rattle.maclaurin.specs.Maclaurin.Open.{short, long}
-use Rattle.maclaurin.proofs.pb_maclaurin.Statement.{statement}
-use Rattle.maclaurin.proofs.pb_maclaurin.Tie as tie
+-- `maclaurin_series::pb_maclaurin` meets its contract: each return is the case that the test picks.
+use Rattle.maclaurin_series.specs.Series.Open.{short, long}
+use Rattle.maclaurin_series.proofs.pb_maclaurin.Statement.{statement}
+use Rattle.maclaurin_series.proofs.pb_maclaurin.Tie as tie
 
 pub pb-maclaurin-spec : {M : Type 1} → statement M
 pb-maclaurin-spec =

@@ -1,8 +1,8 @@
--- `expansion::pbdv_elementary` meets its contract: the mantissas and the exponent, step by step.
-use Rattle.expansion.specs.Expansion.{mantissasBy}
-use Rattle.expansion.specs.Expansion.Open.{mantissas-are}
-use Rattle.expansion.proofs.pbdv_elementary.Statement.{statement}
-use Rattle.expansion.proofs.pbdv_elementary.Tie as tie
+-- `elementary_expansion::pbdv_elementary` meets its contract: the mantissas and the exponent, step by step.
+use Rattle.elementary_expansion.specs.Mantissas.{mantissasBy}
+use Rattle.elementary_expansion.specs.Mantissas.Open.{mantissas-are}
+use Rattle.elementary_expansion.proofs.pbdv_elementary.Statement.{statement}
+use Rattle.elementary_expansion.proofs.pbdv_elementary.Tie as tie
 
 pub pbdv-elementary-spec : {M : Type 1} → statement M
 unfolding mantissasBy

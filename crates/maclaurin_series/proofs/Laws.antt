@@ -6,9 +6,9 @@ use Rattle.floats.specs.Operations.{_⊕_, _⊖_, _⊗_, bits, decimal, f0, f½
 use Rattle.signs.specs.Signs.{absolute}
 use Rattle.mul_exp.specs.MulExp.{mulExp}
 use Rattle.mul_exp.proofs.Laws.{mul-exp-zero}
-use Rattle.maclaurin.specs.Constants.{ln2, smallest, scale, f600}
-use Rattle.maclaurin.specs.Maclaurin.{series, shortForm, pbMaclaurin}
-use Rattle.maclaurin.specs.Maclaurin.Open.{short, long}
+use Rattle.maclaurin_series.specs.Constants.{ln2, smallest, scale, f600}
+use Rattle.maclaurin_series.specs.Series.{series, shortForm, pbMaclaurin}
+use Rattle.maclaurin_series.specs.Series.Open.{short, long}
 
 abbrev both : (Float → Float) → Float × Float → Float × Float
 both f p = (f (p .0), f (p .1))
@@ -17,7 +17,7 @@ both f p = (f (p .0), f (p .1))
 unscaled : (p : Float × Float) → both (λ (m : Float). mulExp m f0) p ≡ both (λ (m : Float). m ⊗ f1 ⊗ f1) p
 unscaled p = rw (mul-exp-zero (p .0), mul-exp-zero (p .1))
 
--- the series with the exponent 0; specs/Maclaurin/Examples.antt has values of its sums
+-- the series with the exponent 0; specs/Series/Examples.antt has values of its sums
 pub with-no-exponent : (a x c0 c1 : Float) → lt (absolute x) smallest ≡ false
     → pbMaclaurin a x c0 c1 f0 ≡ (series a x c0 c1 .4 ⊗ f1 ⊗ f1, series a x c0 c1 .5 ⊗ f1 ⊗ f1)
 with-no-exponent a x c0 c1 h = long a x c0 c1 f0 h ∙ unscaled (series a x c0 c1 .4, series a x c0 c1 .5)

@@ -7,7 +7,7 @@ use Rattle.floats.specs.Operations.{bits, decimal, f0, f½, f1}
 use Rattle.signs.specs.Signs.{absolute}
 use Rattle.extremes.specs.Extremes.{lesser, greater}
 use Rattle.floats.specs.Loops.{countUp}
-use Rattle.maclaurin.specs.Maclaurin.{turn, series}
+use Rattle.maclaurin_series.specs.Series.{turn, series}
 
 -- a sum of the series, and its value
 abbrev pub examples : List (Float × Float)

@@ -14,7 +14,7 @@ use Rattle.answers.specs.StartSums.{startSumsAnswer}
 use Rattle.answers.specs.Tables.{tablesAnswer}
 use Rattle.answers.specs.Expansion.{expansionAnswer}
 
--- number n at x and y: those up to 10 are the functions of `floats`, those up to 18 the elementary functions, those up to 23 gamma2 and the start
+-- number n at x and y: those up to 10 are the small functions, those up to 18 the elementary functions, those up to 23 gamma2 and the start
 -- sums, and of the rest those whose last digit to the base 256 is up to 25 the table calls, the others the expansion and the Maclaurin series
 unfoldable pub answer : ℕ → Float → Float → Float
 answer n x y =

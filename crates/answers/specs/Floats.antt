@@ -1,4 +1,4 @@
--- The functions of `floats` by their numbers in data/floats.bin (README.md).
+-- The small functions, those of `signs`, `truncation` and `extremes`, by their numbers in data/floats.bin (README.md).
 use Prim.Native.Nat.{ℕ}
 use mathlib.Core.Bool.{Bool, cond}
 use lib.Dec.{eqb}

@@ -1,4 +1,4 @@
-// The functions of `floats` by their numbers.
+// The small functions by their numbers: those of `signs`, `truncation` and `extremes`.
 
 ghost use mathlib.Core.Path.{_≡_};
 ghost use Rattle.answers.specs.Floats.{floatsAnswer, truth};

@@ -1,0 +1,126 @@
+//! What the words of the command line ask for.
+
+use std::ffi::OsString;
+
+use gozhnerim::Function;
+
+use crate::help::{HELP, VERSION};
+use crate::numbers;
+use crate::words::{function, quoted};
+
+/// What is to be done. `bool` is whether bits are wanted.
+#[derive(Debug, PartialEq)]
+pub enum Task {
+    Print(&'static str),
+    Pair(Call, bool),
+    Table(Request, bool),
+    Serve(bool),
+}
+
+/// A function, an order and an argument.
+#[derive(Clone, Copy, Debug, PartialEq)]
+pub struct Request {
+    pub function: Function,
+    pub v: f64,
+    pub x: f64,
+}
+
+/// A call that answers a pair.
+#[derive(Clone, Copy, Debug, PartialEq)]
+pub enum Call {
+    Table(Request),
+    Expansion { v: f64, x: f64 },
+    Maclaurin([f64; 5]),
+}
+
+/// Reads the words, or says what is wrong with them.
+pub fn read(words: impl Iterator<Item = OsString>) -> Result<Task, String> {
+    let (mut bits, mut rest) = (false, Vec::new());
+    for word in words {
+        let Ok(word) = word.into_string() else {
+            return Err("an argument is not UTF-8 text".to_string());
+        };
+        match word.as_str() {
+            "--help" | "-h" => return Ok(Task::Print(HELP)),
+            "--version" => return Ok(Task::Print(VERSION)),
+            "--bits" => bits = true,
+            option if option.starts_with("--") => {
+                return Err(format!("there is no option {}", quoted(option)));
+            }
+            _ => rest.push(word),
+        }
+    }
+    let words: Vec<&str> = rest.iter().map(String::as_str).collect();
+    task(&words, bits)
+}
+
+fn task(words: &[&str], bits: bool) -> Result<Task, String> {
+    let Some((&first, rest)) = words.split_first() else {
+        return Err("nothing is asked for".to_string());
+    };
+    match first {
+        "table" => Ok(Task::Table(request("table", rest)?, bits)),
+        "expansion" => {
+            let [v, x] = read_numbers("expansion", ["order", "argument"], rest)?;
+            Ok(Task::Pair(Call::Expansion { v, x }, bits))
+        }
+        "maclaurin" => {
+            let inputs = read_numbers("maclaurin", ["A", "X", "C0", "C1", "E"], rest)?;
+            Ok(Task::Pair(Call::Maclaurin(inputs), bits))
+        }
+        "serve" if rest.is_empty() => Ok(Task::Serve(bits)),
+        "serve" => Err(format!("serve takes no {}", quoted(rest[0]))),
+        "help" => Ok(Task::Print(HELP)),
+        _ if function(first).is_some() => Ok(Task::Pair(Call::Table(request(first, words)?), bits)),
+        other => Err(format!(
+            "{} is none of D, V, table, expansion, maclaurin and serve",
+            quoted(other)
+        )),
+    }
+}
+
+/// A function, an order and an argument, for the command `name`.
+fn request(name: &str, words: &[&str]) -> Result<Request, String> {
+    let Some((&first, rest)) = words.split_first() else {
+        return Err(format!("{name} takes D or V, an order and an argument"));
+    };
+    let Some(function) = function(first) else {
+        return Err(format!("the function is D or V, not {}", quoted(first)));
+    };
+    let [v, x] = read_numbers(first, ["order", "argument"], rest)?;
+    Ok(Request { function, v, x })
+}
+
+/// As many numbers as there are names, for the command `command`.
+fn read_numbers<const N: usize>(
+    command: &str,
+    names: [&str; N],
+    words: &[&str],
+) -> Result<[f64; N], String> {
+    if words.len() != N {
+        return Err(format!(
+            "{command} takes {N} numbers ({}), and {} given",
+            names.join(", "),
+            match words.len() {
+                1 => "1 is".to_string(),
+                count => format!("{count} are"),
+            }
+        ));
+    }
+    let mut read = [0.0; N];
+    for (place, (name, word)) in names.iter().zip(words).enumerate() {
+        read[place] = numbers::read(name, word)?;
+    }
+    Ok(read)
+}
+
+/// Reads a line of `serve` without the ladder's name.
+pub fn line(words: &[&str]) -> Result<Request, String> {
+    if words.len() == 3 {
+        return request("a line", words);
+    }
+    Err(format!(
+        "a request is three words: D or V, an order and an argument; words here: {}",
+        words.len()
+    ))
+}

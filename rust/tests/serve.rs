@@ -1,0 +1,225 @@
+//! The command's `serve`: replies in step with the requests, whatever the lines are.
+
+mod common;
+mod run;
+
+use std::fmt::Write as _;
+use std::fs::File;
+use std::io::{BufRead, BufReader, Read, Write};
+use std::process::Stdio;
+
+use common::Generator;
+use gozhnerim::Ladder;
+use run::{Ran, command, serve};
+
+#[test]
+fn the_three_cases() {
+    let ran = serve(&[], "D 2 0\nD 4 0\nD 4 0\nD 2 0\n");
+    assert_eq!((ran.status, ran.err.as_str()), (Some(0), ""));
+    let expected = [
+        "-1.0 0.0 4 start-over",
+        "3.0 0.0 2 climb",
+        "3.0 0.0 0 repeat",
+        "-1.0 0.0 4 start-over",
+    ];
+    assert_eq!(ran.lines(), expected);
+}
+
+#[test]
+fn ladders_have_names() {
+    let lines = "a: D 2 0\nb: D 2 0\nD 2 0\na: D 4 0\nb :V -1 0\nD 4 0\na:D 4 0\n";
+    let ran = serve(&[], lines);
+    let cases: Vec<&str> = ran
+        .lines()
+        .iter()
+        .map(|line| line.rsplit(' ').next().unwrap())
+        .collect();
+    let expected = [
+        "start-over",
+        "start-over",
+        "start-over",
+        "climb",
+        "start-over",
+        "climb",
+        "repeat",
+    ];
+    assert_eq!(cases, expected);
+}
+
+#[test]
+fn bad_lines_are_named_and_the_run_goes_on() {
+    let lines = "D 2 0\n\n# remark\nD two 0\nD 1000 0\n  \t\nD 2\nU 1 1\nD 4 0\n";
+    let ran = serve(&[], lines);
+    assert_eq!(ran.status, Some(1));
+    let replies = ran.lines();
+    assert_eq!(replies.len(), 6);
+    assert_eq!(replies[0], "-1.0 0.0 4 start-over");
+    assert!(replies[1].starts_with("error line 4: the order is not a number: \"two\""));
+    assert!(replies[2].starts_with("refusal 2: "));
+    assert!(replies[3].starts_with("error line 7: "));
+    assert!(replies[4].starts_with("error line 8: the function is D or V, not \"U\""));
+    assert_eq!(replies[5], "3.0 0.0 2 climb");
+    let messages: Vec<&str> = ran.err.lines().collect();
+    assert_eq!(messages.len(), 3);
+    for (message, number) in messages.iter().zip([4, 7, 8]) {
+        assert!(message.starts_with(&format!("gozhnerim: line {number}: ")));
+    }
+}
+
+#[test]
+fn lines_of_any_bytes() {
+    let mut input = b"D 2 0\n\xff\xfe D\nD 1 1 1\n: D 1 1\na b: D 1 1\na:\nD\0 1 1\n".to_vec();
+    input.extend(b"\x1b[2J 1 1\n\xef\xbb\xbfD 1 1\n# \xff\nD 1e999 1\nD 4 0\r\n");
+    input.extend(vec![b'1'; 5_000_000]);
+    input.extend(b"\n# ");
+    input.extend(vec![b'-'; 100_000]);
+    input.extend(b"\n");
+    input.extend(vec![b' '; 100_000]);
+    input.extend(b"\nD 4 0");
+    let ran = serve(&[], input);
+    assert!(ran.is_calm() && ran.status == Some(1), "{}", ran.err);
+    let replies = ran.lines();
+    let errors = replies
+        .iter()
+        .filter(|line| line.starts_with("error line "))
+        .count();
+    assert_eq!((replies.len(), errors), (14, 11));
+    assert_eq!(replies[10], "3.0 0.0 2 climb");
+    assert_eq!(
+        replies[11],
+        "error line 13: the line is longer than 4096 bytes"
+    );
+    assert_eq!(replies[13], "3.0 0.0 0 repeat");
+    assert!(!ran.out.contains('\u{1b}') && !ran.err.contains('\u{1b}'));
+}
+
+#[test]
+fn random_bytes_get_one_line_each() {
+    let mut generator = Generator::new(5);
+    let alphabet = b"DV:# .-0123456789exinfNa\t\xff\x00\r";
+    let mut input = Vec::new();
+    let mut expected = 0;
+    for _ in 0..3000 {
+        let length = generator.below(14) as usize;
+        let mut byte = || alphabet[generator.below(alphabet.len() as u64) as usize];
+        let line: Vec<u8> = (0..length).map(|_| byte()).collect();
+        let shown = line.trim_ascii();
+        expected += usize::from(!shown.is_empty() && !shown.starts_with(b"#"));
+        input.extend(line);
+        input.push(b'\n');
+    }
+    let ran = serve(&[], input);
+    assert!(ran.is_calm());
+    assert_eq!(ran.lines().len(), expected);
+}
+
+#[test]
+fn replies_are_the_ladders_to_the_bit() {
+    let mut generator = Generator::new(6);
+    let (mut input, mut expected) = (String::new(), String::new());
+    let mut ladders = [Ladder::new(), Ladder::new()];
+    for _ in 0..2000 {
+        let name = generator.below(2) as usize;
+        let function = generator.function();
+        let v = generator.below(80) as f64 - 40.5;
+        let x = generator.one_of(&[0.1, -0.1, 1.0 / 3.0, 30.0]);
+        let reply = ladders[name].request(function, v, x).unwrap();
+        writeln!(input, "t{name}: {function} {:#018x} {x:?}", v.to_bits()).unwrap();
+        let (value, derivative) = (reply.value, reply.derivative);
+        write!(
+            expected,
+            "{value:?} {derivative:?} {} {} ",
+            reply.written, reply.case
+        )
+        .unwrap();
+        let (value, derivative) = (value.to_bits(), derivative.to_bits());
+        writeln!(expected, "{value:#018x} {derivative:#018x}").unwrap();
+    }
+    let ran = serve(&["--bits"], input);
+    assert_eq!(ran.status, Some(0));
+    assert!(ran.out == expected);
+}
+
+#[test]
+fn too_many_ladders() {
+    let mut input = String::new();
+    for name in 0..1001 {
+        writeln!(input, "t{name}: D 2 0").unwrap();
+    }
+    input.push_str("t7: D 4 0\n");
+    let ran = serve(&[], input);
+    assert_eq!((ran.status, ran.lines().len()), (Some(1), 1002));
+    assert!(ran.lines()[1000].starts_with("error line 1001: 1000 ladders are held already"));
+    assert_eq!(ran.lines()[1001], "3.0 0.0 2 climb");
+}
+
+/// A program that sends a line and waits for its reply before it sends the next.
+#[test]
+fn replies_come_at_once() {
+    let mut child = command()
+        .arg("serve")
+        .stdin(Stdio::piped())
+        .stdout(Stdio::piped())
+        .spawn()
+        .unwrap();
+    let mut stdin = child.stdin.take().unwrap();
+    let mut replies = BufReader::new(child.stdout.take().unwrap()).lines();
+    for (line, reply) in [
+        ("D 2 0", "-1.0 0.0 4 start-over"),
+        ("D 4 0", "3.0 0.0 2 climb"),
+    ] {
+        writeln!(stdin, "{line}").unwrap();
+        assert_eq!(replies.next().unwrap().unwrap(), reply);
+    }
+    drop(stdin);
+    assert!(replies.next().is_none());
+    assert_eq!(child.wait().unwrap().code(), Some(0));
+}
+
+#[test]
+fn a_broken_pipe_ends_quietly() {
+    let mut child = command()
+        .arg("serve")
+        .stdin(Stdio::piped())
+        .stdout(Stdio::piped())
+        .stderr(Stdio::piped())
+        .spawn()
+        .unwrap();
+    drop(child.stdout.take());
+    let mut stdin = child.stdin.take().unwrap();
+    let line = b"D 2 0\n".repeat(10_000);
+    while stdin.write_all(&line).is_ok() {}
+    let mut err = String::new();
+    child
+        .stderr
+        .take()
+        .unwrap()
+        .read_to_string(&mut err)
+        .unwrap();
+    assert_eq!((child.wait().unwrap().code(), err.as_str()), (Some(1), ""));
+}
+
+#[test]
+fn input_that_cannot_be_read() {
+    let folder = File::open(env!("CARGO_MANIFEST_DIR")).unwrap();
+    let ran: Ran = command()
+        .arg("serve")
+        .stdin(Stdio::from(folder))
+        .output()
+        .unwrap()
+        .into();
+    assert!(ran.is_calm() && ran.status == Some(1));
+    assert!(
+        ran.err
+            .starts_with("gozhnerim: standard input cannot be read: ")
+    );
+}
+
+#[test]
+fn no_input_is_no_error() {
+    let ran = serve(&[], "");
+    assert_eq!(
+        (ran.status, ran.out.as_str(), ran.err.as_str()),
+        (Some(0), "", "")
+    );
+}

@@ -1,9 +1,9 @@
 //! Finds the static library of the C interface and links it into the package.
 //!
 //! The library is the file that GOZHNERIM_LIBRARY names. Where the variable is not set or empty,
-//! `rt staticlib gozhnerim` is run in the repository, which is the folder above this one.
-//! The file is copied to this build's own folder and linked from there, so that no other file of that
-//! name can be taken and the packages that depend on this one have it too.
+//! `rt staticlib gozhnerim` is run in the repository, which is the folder above this one. The file
+//! is copied to this build's own folder and linked from there, so that no other file of that name
+//! can be taken and the packages that depend on this one have it too.
 
 use std::env;
 use std::ffi::OsString;

@@ -31,17 +31,18 @@ fn pair(answer: c::Answer) -> Result<Pair, Refusal> {
 
 /// D of order v and those below it, at x, into `table`.
 ///
-/// With num = [`slots_needed`](crate::slots_needed)(v) / 2 and n = [`rungs_needed`](crate::rungs_needed)(v),
-/// value k goes to slot k for k from 0 to n, and derivative k to slot num + k for k from 0 to n − 1.
-/// All other slots stay as they are, and no slot is read. The answer is rung n − 1 of both.
+/// With num = [`slots_needed`](crate::slots_needed)(v) / 2 and n =
+/// [`rungs_needed`](crate::rungs_needed)(v), value k goes to slot k for k from 0 to n, and
+/// derivative k to slot num + k for k from 0 to n − 1. All other slots stay as they are, and no
+/// slot is read. The answer is rung n − 1 of both.
 ///
-/// D is defined in [DLMF 12.1](https://dlmf.nist.gov/12.1); the rungs are tied by the recurrences and
-/// derivative formulas of [DLMF 12.8](https://dlmf.nist.gov/12.8).
+/// D is defined in [DLMF 12.1](https://dlmf.nist.gov/12.1); the rungs are tied by the recurrences
+/// and derivative formulas of [DLMF 12.8](https://dlmf.nist.gov/12.8).
 ///
 /// # Errors
 ///
-/// Refusal 1 where v or x is NaN, 2 where the size of v is 1000 or more, 3 where the table has fewer
-/// than `slots_needed(v)` slots.
+/// Refusal 1 where v or x is NaN, 2 where the size of v is 1000 or more, 3 where the table has
+/// fewer than `slots_needed(v)` slots.
 ///
 /// ```
 /// use gozhnerim::{d_table, slots_needed};

@@ -5,8 +5,8 @@ use crate::Function;
 /// The fields of a [`State`](crate::State) as they stand in C: `gozhnerim_ladder` of
 /// `include/gozhnerim.h`.
 ///
-/// A state from elsewhere (a file, a C caller) is handed in by [`State::from_raw`] and handed out by
-/// [`State::to_raw`]. Any bits in any field are safe. The default is an empty state.
+/// A state from elsewhere (a file, a C caller) is handed in by [`State::from_raw`] and handed out
+/// by [`State::to_raw`]. Any bits in any field are safe. The default is an empty state.
 ///
 /// [`State::from_raw`]: crate::State::from_raw
 /// [`State::to_raw`]: crate::State::to_raw

@@ -6,8 +6,8 @@ use crate::{Column, Function, Refusal, Reply, State, column, rungs_needed};
 /// higher order comes.
 ///
 /// The tables grow as a request needs it, so that refusal 3 never happens. It answers as
-/// [`d_table`](crate::d_table) and [`v_table`](crate::v_table) would, to the bit. The recurrences are
-/// those of [DLMF 12.8](https://dlmf.nist.gov/12.8).
+/// [`d_table`](crate::d_table) and [`v_table`](crate::v_table) would, with the same bits or both
+/// NaN. The recurrences are those of [DLMF 12.8](https://dlmf.nist.gov/12.8).
 ///
 /// ```
 /// use gozhnerim::{Case, Ladder};

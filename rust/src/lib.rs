@@ -5,17 +5,18 @@
 //! [DLMF 12.2](https://dlmf.nist.gov/12.2), as functions of an order v and an argument x:
 //! D of order v at x is U(−v − ½, x), and V of order v at x is V(−v − ½, x) there.
 //!
-//! A request works out rungs. With f the fraction of v + 1 (v ≥ 0) or of v − 1 (v < 0), both rounded,
-//! rung k is the function at order f + k or at order f − k ([`rung_order`]). The top rung is n
-//! ([`rungs_needed`]), and the answer is rung n − 1, which is the function at order v.
+//! A request works out rungs. With f the fraction of v + 1 (v ≥ 0) or of v − 1 (v < 0), both
+//! rounded, rung k is the function at order f + k or at order f − k ([`rung_order`]). The top rung
+//! is n ([`rungs_needed`]), and the answer is rung n − 1, which is the function at order v.
 //!
 //! - [`d_table`] and [`v_table`] work out all rungs of one request into a table.
 //! - A [`Ladder`] holds its rungs between requests. When a higher order comes it climbs: it works out
 //!   only the rungs that are new. [`State`] is the same over tables that the caller lends.
 //! - [`d_expansion`] is D at large negative orders, [`maclaurin`] the series at 0.
 //!
-//! A call answers, or gives a [`Refusal`] and changes nothing. A ladder answers as single table calls
-//! would, to the bit: this is proved for every list of requests.
+//! A call answers, or gives a [`Refusal`] and changes nothing. A ladder answers as single table
+//! calls would, with the same bits or both NaN: of the library this is proved, for every list of
+//! requests; of this package over it, it is tested.
 //!
 //! ```
 //! use gozhnerim::{Case, Ladder};
@@ -33,8 +34,11 @@
 //! # Ok::<(), gozhnerim::Refusal>(())
 //! ```
 //!
-//! The library takes the processor in its usual mode: rounding to nearest, subnormal numbers kept. It
-//! allocates nothing and keeps nothing between calls, so calls may run at the same time.
+//! The library takes the processor in its usual mode: rounding to nearest, subnormal numbers kept.
+//! It allocates nothing and keeps nothing between calls, so calls may run at the same time.
+//!
+//! To build the package, set `GOZHNERIM_LIBRARY` to the full path of `libgozhnerim.a`. Without it,
+//! `rt staticlib gozhnerim` is run in the repository. x86-64 Linux.
 
 #![forbid(unsafe_op_in_unsafe_fn)]
 #![deny(unsafe_code)]

@@ -65,8 +65,9 @@ pub fn rungs_needed(v: f64) -> Result<usize, Refusal> {
     Ok(shifted(v).abs().trunc() as usize)
 }
 
-/// The order of rung k in a request for order v, rounded: f + k (v ≥ 0) or f − k (v < 0), f being the
-/// fraction of the shifted order. Rung n − 1 has order v, up to the rounding of the shifted order.
+/// The order of rung k in a request for order v, rounded: f + k (v ≥ 0) or f − k (v < 0), f being
+/// the fraction of the shifted order. Rung n − 1 has order v, up to the rounding of the shifted
+/// order.
 ///
 /// # Errors
 ///

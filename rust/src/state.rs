@@ -7,9 +7,9 @@ const LARGEST_N: u32 = 1000;
 
 /// What a ladder holds between two requests, as a value. The tables are lent for each request.
 ///
-/// A request takes the same tables as the one before left them, or longer ones: then slots 0 to n of
-/// the value table and 0 to n − 1 of the derivative table are the rungs. No slot is ever read, so
-/// answers do not depend on what the tables hold.
+/// A request takes the same tables as the one before left them, or longer ones: then slots 0 to n
+/// of the value table and 0 to n − 1 of the derivative table are the rungs. No slot is ever read,
+/// so answers do not depend on what the tables hold.
 ///
 /// A copy of a state may be kept, and a state may come from elsewhere by [`State::from_raw`].
 /// [`Ladder`](crate::Ladder) is the same with tables of its own.
@@ -81,9 +81,9 @@ impl State {
         },
     };
 
-    /// A request for a function of order v at x. `values` needs n + 1 slots and `derivatives` n, with
-    /// n = [`rungs_needed`](crate::rungs_needed)(v). [`Case`](crate::Case) says what is written; all
-    /// other slots stay as they are. The state becomes the one for the next request.
+    /// A request for a function of order v at x. `values` needs n + 1 slots and `derivatives` n,
+    /// with n = [`rungs_needed`](crate::rungs_needed)(v). [`Case`](crate::Case) says what is
+    /// written; all other slots stay as they are. The state becomes the one for the next request.
     ///
     /// # Errors
     ///
@@ -112,8 +112,9 @@ impl State {
         reply.try_into()
     }
 
-    /// Whether the state holds nothing. A state from elsewhere counts as empty also where its function
-    /// is neither D nor V, its n is 0 or above 1000, its x or f is NaN, or the size of f is 1 or more.
+    /// Whether the state holds nothing. A state from elsewhere counts as empty also where its
+    /// function is neither D nor V, its n is 0 or above 1000, its x or f is NaN, or the size of f
+    /// is 1 or more.
     ///
     /// ```
     /// use gozhnerim::{RawState, State};

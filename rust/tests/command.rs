@@ -176,7 +176,7 @@ fn help_and_version() {
     for words in ["--help", "-h", "help", "D --help"] {
         let ran = run_text(words);
         assert!(answered(&ran) && ran.out.contains("usage:"), "{words}");
-        assert!(ran.out.lines().all(|line| line.len() <= 110));
+        assert!(ran.out.lines().all(|line| line.len() <= 82));
     }
     assert_eq!(
         run_text("--version").out,

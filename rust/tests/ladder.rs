@@ -10,7 +10,8 @@ use gozhnerim::{
     Case, Column, Function, Ladder, Refusal, Reply, State, column, rungs_needed, slots_needed,
 };
 
-/// A stream of requests: some are the last one again, some the last one some rungs higher, others new.
+/// A stream of requests: some are the last one again, some the last one some rungs higher, others
+/// new.
 struct Requests {
     generator: Generator,
     last: (Function, f64, f64),
@@ -154,8 +155,8 @@ fn cases_and_counts_are_the_machines() {
     assert!(seen.all_came());
 }
 
-/// Tables filled anew before each request: the named slots are written, all others stay, and answers
-/// do not depend on what the tables hold.
+/// Tables filled anew before each request: the named slots are written, all others stay, and
+/// answers do not depend on what the tables hold.
 #[test]
 fn lent_tables_hold_anything() {
     let (mut state, mut ladder) = (State::EMPTY, Ladder::new());

@@ -147,8 +147,8 @@ fn a_climb_goes_on_from_the_two_values_given() {
     );
 }
 
-/// Random bits in every field: `is_empty` foretells whether the library takes a state for empty, and
-/// no call panics.
+/// Random bits in every field: `is_empty` foretells whether the library takes a state for empty,
+/// and no call panics.
 #[test]
 fn random_states() {
     let mut generator = Generator::new(9);

@@ -227,6 +227,10 @@ fn columns_of_lent_tables() {
     for c in [4, usize::MAX] {
         assert!(read(Column::Derivatives, c).is_empty());
     }
+    assert_eq!(
+        column(&derivatives, &values, Column::Derivatives, 4).len(),
+        4
+    );
     assert!(column(&[], &[], Column::Values, 0).is_empty());
     assert_eq!(values[3].to_bits(), mark(3).to_bits());
 }

@@ -31,7 +31,7 @@ const LAYERS: [(&str, &[Function]); 3] = [
 ];
 
 const USAGE: &str = "\
-arguments: compare COUNT SEED | soak REQUESTS [SEED] | entries | edges | store FOLDER | bench
+arguments: compare COUNT SEED | soak REQUESTS [SEED] | edges | store FOLDER | bench
   COUNT     inputs for each function and for each call of the expansion, requests for each table call
             and for the ladder from empty; a fifth as many states handed in; a whole number above 0
   REQUESTS  for the calls of the C interface in all, a whole number above 0
@@ -51,7 +51,6 @@ fn main() -> ExitCode {
         ["compare", count, seed] => seeded(compare, count, seed),
         ["soak", requests] => seeded(soak::run, requests, "1"),
         ["soak", requests, seed] => seeded(soak::run, requests, seed),
-        ["entries"] => Some(entries::run()),
         ["edges"] => {
             println!("{}", edge_lines::lines().join("\n"));
             Some(true)
@@ -77,9 +76,10 @@ fn seeded(run: fn(usize, u64) -> bool, count: &str, seed: &str) -> Option<bool> 
     Some(run(count.get(), seed))
 }
 
-/// Compares every layer. Gives whether there was no difference.
+/// Calls each entry of the compared Rust, then compares every layer. Gives whether no entry was off
+/// and there was no difference.
 fn compare(count: usize, seed: u64) -> bool {
-    let mut right = true;
+    let mut right = entries::run();
     for (name, functions) in LAYERS {
         let mut tally = Tally::of_functions(functions.len());
         for function in functions {

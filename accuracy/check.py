@@ -6,13 +6,15 @@ from mpmath import mp, mpf, pcfd, pcfv
 
 from reference import Order
 
-SAMPLES = [(v, x) for v in (-40.7, -12.0, -3.5, -0.3, 0.0, 0.3, 2.5, 7.0, 19.9, 45.5) for x in (0.1, 0.7, 3.1, 8.9)]
+ORDERS = (-40.7, -12.0, -3.5, -0.3, 0.0, 0.3, 2.5, 7.0, 19.9, 45.5)
+SAMPLES = [(v, x) for v in ORDERS for x in (0.1, 0.7, 3.1, 8.9)]
+SAMPLES += [(-60.3, 20.0), (60.5, 20.0), (150.5, 5.0), (300.0, 60.0), (-7.3, 60.0)]
 DIGITS = 25
 
 
 def far(one, other):
     """Whether two numbers differ within the digits asked for."""
-    return abs(one - other) > mpf(10) ** -DIGITS * max(abs(one), abs(other), mpf(10) ** -300)
+    return abs(one - other) > mpf(10) ** -DIGITS * max(abs(one), abs(other))
 
 
 def differences(v, x, side, pairs, above):

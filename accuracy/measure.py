@@ -8,7 +8,9 @@ from pathlib import Path
 import check
 import errors
 import grid
+import limits
 import picture
+import ranges
 import report
 
 BEGIN, END = "<!-- written by accuracy/run: {} -->", "<!-- end -->"
@@ -33,9 +35,11 @@ def main(program, docs):
     near = report.by_branch("table calls, sizes of v to 60.5, of x to 20.1", fine)
     far = report.by_branch("table calls, sizes of v to 300.3, of x to 58.8", wide)
     others = report.other_rows(tables, errors.expansion_points(program), errors.series_points(program))
-    print(near, far, others, sep="\n\n")
+    ends = limits.table(program)
+    good = ranges.table(tables)
+    print(near, far, others, ends, good, sep="\n\n")
     print("\nthe largest errors of the first table, as requests:", report.bits_of_largest(fine), sep="\n")
-    for name, table in (("branches", near), ("other calls", others)):
+    for name, table in (("branches", near), ("other calls", others), ("limits", ends), ("ranges", good)):
         put(docs / "SUPPORT.md", name, table)
     for function in "DV":
         (docs / f"accuracy-{function.lower()}.svg").write_text(picture.picture(tables, function), encoding="utf-8")

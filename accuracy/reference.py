@@ -1,8 +1,8 @@
-"""D and V with derivatives to 30 digits or more, from the series of DLMF 12.4 in exact whole-number arithmetic.
+"""D and V with derivatives to 30 digits, from the series of DLMF 12.4 in whole-number arithmetic and mpmath's gamma.
 
 D_v(x) = U(a, x) and V_v(x) = V(a, x) with a = -v - 1/2. Both are c0 u1 + c1 u2, with u1 and u2 the even and the odd
 solution of w'' = (x^2/4 + a) w and c0, c1 the function and its derivative at 0 (DLMF 12.2.6 to 12.2.9).
-Every point is worked out at two precisions that have to agree, and the Wronskian of D and V has to be sqrt(2/pi)
+Every point of D and V is worked out at two precisions that have to agree, and their Wronskian has to be sqrt(2/pi)
 (DLMF 12.2.19). If not, both precisions are raised.
 """
 
@@ -126,7 +126,7 @@ def agree(low, high):
 
 
 def series(a, x, c0, c1, e):
-    """w and w' at x, with w(0) = c0 exp(e) and w'(0) = c1 exp(e)."""
+    """w and w' at x, with w(0) = c0 exp(e) and w'(0) = c1 exp(e); at one precision, since little cancels in range."""
     a, x = Fraction(a), Fraction(x)
     bits = 2 * growth_bits(a, x) + 3 * AGREE_BITS
     pair = combined((mpf(c0), mpf(c1)), solutions(a, x, bits))

@@ -134,7 +134,8 @@ def picture(points, function):
     far = (range(-60, 61, 15), range(-300, 301, 100))
     body = [text(LEFT, 26, f"Digits lost by the table call of {function} (the larger loss of value and derivative)",
                  16, "start")]
-    for column, (fraction, words) in enumerate(((0.0, "whole orders v"), (grid.FRACTION, "orders v = whole number + 0.3"))):
+    kinds = ((0.0, "whole orders v"), (grid.FRACTION, "orders v = whole number + 0.3"))
+    for column, (fraction, words) in enumerate(kinds):
         left = LEFT + column * ACROSS
         fine = Panel((left, TOP), words, grid.X_STEP, 41, 1, 60, near)
         wide = Panel((left, TOP + DOWN), words, grid.WIDE_X_STEP, 30, grid.WIDE_V_STEP, 25, far)

@@ -9,7 +9,7 @@ use lib.ListN.{length, getD, set}
 use lib.Ieee.{Float, nan}
 use Rattle.recurrence.specs.declared.Function.{Function}
 use Rattle.derivatives.specs.Derivatives.{derivative}
-use Rattle.rungs.specs.Branches.{value, derivativeAt}
+use Rattle.rungs.specs.ColumnValues.{value, derivativeAt}
 use Rattle.value_column.specs.Filled.{filled}
 use Rattle.value_column.specs.Slots.{slot, derivativeOver}
 use Rattle.value_column.specs.ValueColumn.{allValues}

@@ -1,4 +1,4 @@
--- The constants of the expansion, each by its bits; `NAME-is` says which decimal of 01 or of the source it is.
+-- The constants of the expansion's refusals, each by its bits; `NAME-is` says which decimal of 01 it is.
 use mathlib.Core.Path.{_≡_, refl}
 use lib.Ieee.{Float, ofBits}
 use Rattle.floats.specs.Operations.{bits, decimal}

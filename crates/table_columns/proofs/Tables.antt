@@ -15,7 +15,7 @@ use Rattle.recurrence.specs.declared.Function.{Function}
 use Rattle.recurrence.specs.Recurrence.{ownRungTwo}
 use Rattle.derivatives.specs.Derivatives.{derivative}
 use Rattle.rungs.specs.Rungs.{rung}
-use Rattle.rungs.specs.Branches.{value, derivativeAt}
+use Rattle.rungs.specs.ColumnValues.{value, derivativeAt}
 use Rattle.branches.proofs.Laws.{own-forward}
 use Rattle.rungs.proofs.Laws.{own-rung-two, value-forward, derivative-at}
 use Rattle.value_column.specs.Filled.{filled}

@@ -17,7 +17,7 @@ use Rattle.order.proofs.Laws.{num-least}
 use Rattle.table_refusals.specs.Refusals.{refusalBy}
 use Rattle.table_refusals.proofs.Laws.{not-refused, accepted-by}
 use Rattle.recurrence.specs.declared.Function.{Function}
-use Rattle.rungs.specs.Branches.{value, derivativeAt}
+use Rattle.rungs.specs.ColumnValues.{value, derivativeAt}
 use Rattle.value_column.specs.Filled.{filled}
 use Rattle.value_column.specs.Slots.{slot}
 use Rattle.table_columns.specs.TableColumns.{valuesIn, bothColumns}

@@ -11,7 +11,7 @@ use Rattle.floats.specs.Operations.{_⊘_, f0}
 use Rattle.recurrence.specs.declared.Function.{Function}
 use Rattle.recurrence.specs.Recurrence.{nextRung}
 use Rattle.rungs.specs.Rungs.{startValue, startRungs, rung, descent, topRungs, downwardRung, seed, rawRung, scaledRung}
-use Rattle.rungs.specs.Branches.{value, derivativeAt}
+use Rattle.rungs.specs.ColumnValues.{value, derivativeAt}
 use Rattle.rungs.proofs.Laws.{derivative-at, rungs-zero-one, rung-two, descent-top, descent-above, descent-on, downward-rung, raw-rung, scaled-rung}
 use Rattle.value_column.specs.Filled.{filled}
 use Rattle.value_column.specs.Slots.{slot, scaledBy, derivativeOver}

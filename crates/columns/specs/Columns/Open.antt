@@ -6,7 +6,7 @@ use Prim.Native.Nat.{ℕ, _+_}
 use lib.ListN.{length}
 use lib.Ieee.{Float}
 use Rattle.recurrence.specs.declared.Function.{Function}
-use Rattle.rungs.specs.Branches.{value, derivativeAt}
+use Rattle.rungs.specs.ColumnValues.{value, derivativeAt}
 use Rattle.value_column.specs.Filled.{filled}
 use Rattle.columns.specs.Columns.{roomFor, valueColumn, derivativeColumn}
 

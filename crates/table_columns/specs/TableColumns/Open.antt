@@ -8,7 +8,7 @@ use lib.ListN.{length}
 use lib.Ieee.{Float}
 use Rattle.recurrence.specs.declared.Function.{Function}
 use Rattle.recurrence.specs.Recurrence.{ownRungTwo}
-use Rattle.rungs.specs.Branches.{value, derivativeAt}
+use Rattle.rungs.specs.ColumnValues.{value, derivativeAt}
 use Rattle.value_column.specs.Filled.{filled}
 use Rattle.table_columns.specs.TableColumns.{roomIn, valuesIn, bothColumns}
 

@@ -75,14 +75,14 @@ gozhnerim_answer gozhnerim_d_expansion(double v, double x);
 gozhnerim_answer gozhnerim_maclaurin(double a, double x, double c0, double c1, double e);
 
 /*
- * What a ladder holds between two requests. All bytes 0 is an empty ladder. It counts as empty also
- * where n is 0 or above 1000, x or f is NaN, or the size of f is 1 or more.
+ * What a ladder holds between two requests. All bytes 0 is an empty ladder. A state counts as empty
+ * where function is neither 1 nor 2, n is 0 or above 1000, x or f is NaN, or the size of f is 1 or more.
  */
 typedef struct {
-    uint32_t function;     /* 1 is D, 2 is V, anything else is empty */
+    uint32_t function;     /* 1 is D, 2 is V */
     uint32_t below_zero;   /* 1 where v < 0, else 0; more than 1 counts as 1 */
     uint32_t n;            /* the top rung */
-    uint32_t reserved[3];  /* 0 in an empty state and from every accepted call; plays no part */
+    uint32_t reserved[3];  /* 0 in an empty state and from every accepted call; hand it back as received */
     double x;              /* the argument */
     double f;              /* the fraction of v + 1 (v >= 0) or v - 1 (v < 0), with its sign */
     double value_below;    /* rung n - 1 */
@@ -105,7 +105,8 @@ typedef struct {
  *   n + f <= x * x / 2): a climb. Values above the held n and derivatives from it on are written, as
  *   many of each as n has grown, which is the count.
  * - Otherwise it starts over: values 0 to n and derivatives 0 to n - 1 are written, the count is n + 1.
- * The first two go on from value_below and value_top. No slot is read. Refusals 1, 2, 3.
+ * The first two go on from value_below and value_top and read no slot; starting over reads only slots
+ * that it has written in the same call. Refusals 1, 2, 3.
  */
 gozhnerim_reply gozhnerim_ladder_d(gozhnerim_ladder held, double v, double x, double *values,
                                    size_t values_len, double *derivatives, size_t derivatives_len);

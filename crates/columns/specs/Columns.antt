@@ -5,7 +5,7 @@ use mathlib.Core.Bool.{Bool, _&&_, cond}
 use lib.Dec.{ltb, leb}
 use lib.ListN.{length}
 use lib.Ieee.{Float}
-use Rattle.recurrence.specs.declared.Function.{Function}
+use Rattle.rungs.specs.declared.Sequence.{Sequence}
 use Rattle.rungs.specs.ColumnValues.{value, derivativeAt}
 use Rattle.value_column.specs.Filled.{filled}
 pub mod Open
@@ -15,8 +15,8 @@ unfoldable pub roomFor : ℕ → ℕ → ℕ → Bool
 roomFor n values derivatives = leb 1 n && leb n 1000 && ltb n values && leb n derivatives
 
 -- values 0 to n and derivatives 0 to n − 1 in columns that have room for both, and else nothing
-pub valueColumn : Function → Bool → Float → Float → Float → ℕ → List Float → ℕ → List Float
-valueColumn fn below x u f n l derivatives = cond (roomFor n (length l) derivatives) (filled (value fn below x u f n) 0 0 (n + 1) l) l
+pub valueColumn : Sequence → Float → ℕ → List Float → ℕ → List Float
+valueColumn r u n l derivatives = cond (roomFor n (length l) derivatives) (filled (value r u n) 0 0 (n + 1) l) l
 
-pub derivativeColumn : Function → Bool → Float → Float → Float → ℕ → ℕ → List Float → List Float
-derivativeColumn fn below x u f n values l = cond (roomFor n values (length l)) (filled (derivativeAt fn below x u f n) 0 0 n l) l
+pub derivativeColumn : Sequence → Float → ℕ → ℕ → List Float → List Float
+derivativeColumn r u n values l = cond (roomFor n values (length l)) (filled (derivativeAt r u n) 0 0 n l) l

@@ -7,31 +7,24 @@ ghost use Rattle.value_column.specs.Filled.{filled};
 ghost use Rattle.value_column.specs.Slots.{derivativeOver};
 ghost use Rattle.columns.specs.Columns.{roomFor, valueColumn, derivativeColumn};
 use order::Rung;
-use recurrence::Function;
+use rungs::Sequence;
 use value_column::fill_values;
 
 // Stores n derivatives, over the values of another table.
-fn fill_derivatives_over(
-    values: &[f64],
-    derivatives: &mut [f64],
-    function: Function,
-    below: bool,
-    x: f64,
-    f: f64,
-    n: Rung,
-)
-    requires held { ⌜ n < length (now values) ⌝ }
+fn fill_derivatives_over(values: &[f64], derivatives: &mut [f64], sequence: Sequence, n: Rung)
+    requires values { ⌜ n < length (now values) ⌝ }
     requires room { ⌜ n ≤ length (now derivatives) ⌝ }
-    ensures { λ _. ⌜ now (derivatives .exit) ≡ filled (derivativeOver function below x f (now (values .entry))) 0 0 n (now (derivatives .entry)) ⌝ }
+    ensures { λ _. ⌜ now (derivatives .exit) ≡ filled (derivativeOver sequence (now (values .entry))) 0 0 n (now (derivatives .entry)) ⌝ }
 {
+    let function = sequence.function;
     for k in 0..n {
         let at = k as usize;
         let next = at + 1;
         derivatives[at] = derivatives::derivative(
             function,
-            below,
-            x,
-            f,
+            sequence.below,
+            sequence.x,
+            sequence.f,
             k,
             values[at],
             values[next],
@@ -60,18 +53,15 @@ fn has_room(n: Rung, values: usize, derivatives: usize) -> bool
 pub fn fill_columns(
     values: &mut [f64],
     derivatives: &mut [f64],
-    function: Function,
-    below: bool,
-    x: f64,
+    sequence: Sequence,
     u: f64,
-    f: f64,
     n: Rung,
 )
-    ensures values { λ _. ⌜ now (values .exit) ≡ valueColumn function below x u f n (now (values .entry)) (length (now (derivatives .entry))) ⌝ }
-    ensures derivatives { λ _. ⌜ now (derivatives .exit) ≡ derivativeColumn function below x u f n (length (now (values .entry))) (now (derivatives .entry)) ⌝ }
+    ensures values { λ _. ⌜ now (values .exit) ≡ valueColumn sequence u n (now (values .entry)) (length (now (derivatives .entry))) ⌝ }
+    ensures derivatives { λ _. ⌜ now (derivatives .exit) ≡ derivativeColumn sequence u n (length (now (values .entry))) (now (derivatives .entry)) ⌝ }
 {
     if has_room(n, values.len(), derivatives.len()) {
-        fill_values(values, function, below, x, u, f, n);
-        fill_derivatives_over(values, derivatives, function, below, x, f, n);
+        fill_values(values, sequence, u, n);
+        fill_derivatives_over(values, derivatives, sequence, n);
     }
 }

@@ -1,1 +1,3 @@
 pub mod Lists
+pub mod AnyState
+pub mod Demand3InC

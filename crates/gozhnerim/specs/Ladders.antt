@@ -1,32 +1,28 @@
 -- A ladder's state and reply in C (01, "The ladder"; the C interface).
-use mathlib.Core.List.{[], _∷_}
+use mathlib.Core.List.{List, [], _∷_}
 use mathlib.Core.Option.{Option, some, none}
 use Prim.Native.Nat.{ℕ}
 use mathlib.Core.Bool.{not, cond}
 use lib.Dec.{eqb}
+use lib.Ieee.{Float}
 use Rattle.recurrence.specs.declared.Function.{Function}
 use Rattle.recurrence.specs.declared.Function.the-variants.{D, «V»}
 use Rattle.ladder.specs.declared.Ladder.{Ladder}
-use Rattle.ladder.specs.Ladder.{emptyState, Given}
+use Rattle.machine.specs.Machine.{Request}
+use Rattle.ladder.specs.Ladder.{stateOf, emptyState, Given, requested}
 use Rattle.gozhnerim.specs.declared.ladders.GozhnerimLadder.{GozhnerimLadder}
 use Rattle.gozhnerim.specs.declared.ladders.GozhnerimReply.{GozhnerimReply}
 use Rattle.gozhnerim.specs.Answers.{pairOrNan}
 
--- ---- the state that comes in: function 1 is D, 2 is V, and with any other it is empty; below_zero counts as 1 where it is not 0; reserved plays no part
+-- ---- the state that comes in: function 1 is D, 2 is V, and with any other it is empty; below_zero counts as 1 where it is not 0; reserved is not
+-- looked at
 
 unfoldable pub functionOf : ℕ → Option Function
 functionOf number = cond (eqb number 1) (some D) (cond (eqb number 2) (some «V») none)
 
 unfoldable pub ladderBy : Option Function → GozhnerimLadder → Ladder
-ladderBy (some function) s = record {
-  function = function;
-  below = not (eqb (s .«below_zero») 0);
-  x = s .x;
-  f = s .f;
-  n = s .n;
-  low = s .«value_below»;
-  high = s .«value_top»;
-}
+ladderBy (some function) s =
+    stateOf (record { function = function; below = not (eqb (s .«below_zero») 0); x = s .x; f = s .f }) (s .n) (s .«value_below») (s .«value_top»)
 ladderBy none s = emptyState
 
 unfoldable pub ladderIn : GozhnerimLadder → Ladder
@@ -67,3 +63,15 @@ replyOf held g = record {
   value = pairOrNan (g .pair) .0;
   derivative = pairOrNan (g .pair) .1;
 }
+
+-- ---- a request: the reply, and both tables as they are left
+
+pub record OutcomeInC : Type 0 where
+  pub reply : GozhnerimReply
+  pub values : List Float
+  pub derivatives : List Float
+
+unfoldable pub requestedInC : GozhnerimLadder → Request → List Float → List Float → OutcomeInC
+requestedInC held q values derivatives =
+    let o = requested (ladderIn held) q values derivatives in
+    record { reply = replyOf held (o .given); values = o .values; derivatives = o .derivatives }

@@ -4,13 +4,15 @@ ghost use mathlib.Core.Path.{_≡_};
 ghost use mathlib.Core.Option.{some};
 ghost use Rattle.recurrence.specs.declared.Function.the-variants.{D, «V»};
 ghost use Rattle.machine.specs.Machine.{asks};
-ghost use Rattle.ladder.specs.Ladder.{writtenOf, givenBy, requested};
-ghost use Rattle.gozhnerim.specs.Ladders.{numberOf, ladderBy, ladderIn, ladderOut, handedBack, countOf, replyOf};
+ghost use Rattle.ladder.specs.Ladder.{writtenOf, givenBy};
+ghost use Rattle.gozhnerim.specs.Ladders.{numberOf, ladderBy, ladderIn, ladderOut, handedBack, countOf, replyOf, requestedInC};
 use crate::answers::flat;
 use ladder::Ladder;
 use ladder::Reply;
 use ladder::Written;
+use ladder::state_of;
 use recurrence::Function;
+use rungs::Sequence;
 
 // A state. Function 1 is D, 2 is V, and any other number makes it empty; below_zero is 0 from order 0 on; value_below is rung n - 1, value_top rung n.
 #[repr(C)]
@@ -39,15 +41,13 @@ pub struct GozhnerimReply {
 fn holding(s: GozhnerimLadder, function: Function) -> Ladder
     ensures { λ r. ⌜ r ≡ ladderBy (some function) s ⌝ }
 {
-    Ladder {
+    let sequence = Sequence {
         function: function,
         below: s.below_zero != 0,
         x: s.x,
         f: s.f,
-        n: s.n,
-        low: s.value_below,
-        high: s.value_top,
-    }
+    };
+    state_of(sequence, s.n, s.value_below, s.value_top)
 }
 
 // The ladder of any state.
@@ -134,9 +134,9 @@ fn request(
     values: &mut [f64],
     derivatives: &mut [f64],
 ) -> GozhnerimReply
-    ensures reply { λ r. ⌜ r ≡ replyOf held (requested (ladderIn held) (asks function v x) (now (values .entry)) (now (derivatives .entry)) .given) ⌝ }
-    ensures values { λ _. ⌜ now (values .exit) ≡ requested (ladderIn held) (asks function v x) (now (values .entry)) (now (derivatives .entry)) .values ⌝ }
-    ensures derivatives { λ _. ⌜ now (derivatives .exit) ≡ requested (ladderIn held) (asks function v x) (now (values .entry)) (now (derivatives .entry)) .derivatives ⌝ }
+    ensures reply { λ r. ⌜ r ≡ requestedInC held (asks function v x) (now (values .entry)) (now (derivatives .entry)) .reply ⌝ }
+    ensures values { λ _. ⌜ now (values .exit) ≡ requestedInC held (asks function v x) (now (values .entry)) (now (derivatives .entry)) .values ⌝ }
+    ensures derivatives { λ _. ⌜ now (derivatives .exit) ≡ requestedInC held (asks function v x) (now (values .entry)) (now (derivatives .entry)) .derivatives ⌝ }
 {
     reply_of(
         held,
@@ -152,9 +152,9 @@ pub extern "C" fn gozhnerim_ladder_d(
     values: &mut [f64],
     derivatives: &mut [f64],
 ) -> GozhnerimReply
-    ensures reply { λ r. ⌜ r ≡ replyOf held (requested (ladderIn held) (asks D v x) (now (values .entry)) (now (derivatives .entry)) .given) ⌝ }
-    ensures values { λ _. ⌜ now (values .exit) ≡ requested (ladderIn held) (asks D v x) (now (values .entry)) (now (derivatives .entry)) .values ⌝ }
-    ensures derivatives { λ _. ⌜ now (derivatives .exit) ≡ requested (ladderIn held) (asks D v x) (now (values .entry)) (now (derivatives .entry)) .derivatives ⌝ }
+    ensures reply { λ r. ⌜ r ≡ requestedInC held (asks D v x) (now (values .entry)) (now (derivatives .entry)) .reply ⌝ }
+    ensures values { λ _. ⌜ now (values .exit) ≡ requestedInC held (asks D v x) (now (values .entry)) (now (derivatives .entry)) .values ⌝ }
+    ensures derivatives { λ _. ⌜ now (derivatives .exit) ≡ requestedInC held (asks D v x) (now (values .entry)) (now (derivatives .entry)) .derivatives ⌝ }
 {
     request(held, Function::D, v, x, values, derivatives)
 }
@@ -167,9 +167,9 @@ pub extern "C" fn gozhnerim_ladder_v(
     values: &mut [f64],
     derivatives: &mut [f64],
 ) -> GozhnerimReply
-    ensures reply { λ r. ⌜ r ≡ replyOf held (requested (ladderIn held) (asks «V» v x) (now (values .entry)) (now (derivatives .entry)) .given) ⌝ }
-    ensures values { λ _. ⌜ now (values .exit) ≡ requested (ladderIn held) (asks «V» v x) (now (values .entry)) (now (derivatives .entry)) .values ⌝ }
-    ensures derivatives { λ _. ⌜ now (derivatives .exit) ≡ requested (ladderIn held) (asks «V» v x) (now (values .entry)) (now (derivatives .entry)) .derivatives ⌝ }
+    ensures reply { λ r. ⌜ r ≡ requestedInC held (asks «V» v x) (now (values .entry)) (now (derivatives .entry)) .reply ⌝ }
+    ensures values { λ _. ⌜ now (values .exit) ≡ requestedInC held (asks «V» v x) (now (values .entry)) (now (derivatives .entry)) .values ⌝ }
+    ensures derivatives { λ _. ⌜ now (derivatives .exit) ≡ requestedInC held (asks «V» v x) (now (values .entry)) (now (derivatives .entry)) .derivatives ⌝ }
 {
     request(held, Function::V, v, x, values, derivatives)
 }

@@ -1,43 +1,61 @@
--- A turn of the climb: the next rung, and the two slots that it fills. Assumes nothing.
+-- What a climb carries on, and a turn of it: the next rung, and the two slots that it fills. Assumes nothing.
 use mathlib.Core.Path.{_≡_, sym, ap, _∙_}
 use mathlib.Core.List.{List}
-use Prim.Native.Nat.{ℕ, suc, _+_, _-_, _≤_}
-use native.Mathlib.Nat.{sub-self}
+use Prim.Native.Nat.{ℕ, suc, _+_, _-_, _≤_, _<_}
 use native.Mathlib.Omega.{arith}
 use lib.ListN.{set}
 use lib.Ieee.{Float}
 use Rattle.recurrence.specs.Recurrence.{step}
+use Rattle.recurrence.specs.ThreeTerm.{continued}
+use Rattle.recurrence.proofs.ThreeTerm.{continued-next}
 use Rattle.derivatives.specs.Derivatives.{derivative}
 use Rattle.value_column.specs.Filled.{filled}
 use Rattle.value_column.proofs.Filled.{filled-more}
 use Rattle.ladder.specs.declared.Ladder.{Ladder}
-use Rattle.ladder.specs.Ladder.{carried, carriedValue, carriedDerivative, climbedTo}
-use Rattle.ladder.specs.Ladder.Open.{carried-zero, carried-suc, carriedValue-is, carriedDerivative-is, climbedTo-is}
+use Rattle.ladder.specs.Ladder.{stateOf, sequenceIn, carriedValue, carriedDerivative, climbedTo}
+use Rattle.ladder.specs.Ladder.Open.{carriedValue-is, carriedDerivative-is, climbedTo-is}
 
 module _ (s : Ladder) where
-  -- before the first turn
-  pub first-low : s .low ≡ carried s (s .n - s .n) .0
-  first-low = rw (sub-self, carried-zero s)
+  abbrev stepFrom : ℕ → Float → Float → Float
+  stepFrom k low high = step (s .function) (s .below) (s .x) (s .f) k low high
 
-  pub first-high : s .high ≡ carried s (s .n - s .n) .1
-  first-high = rw (sub-self, carried-zero s)
+  -- term i of what is carried on is rung n − 1 + i
+  term : (k i : ℕ) → k + 1 - s .n ≡ i → carriedValue s k ≡ continued (λ j. stepFrom (s .n + 1 + j)) (s .low) (s .high) i
+  term k i e = carriedValue-is s k ∙ ap (continued (λ j. stepFrom (s .n + 1 + j)) (s .low) (s .high)) e
+
+  -- THE TWO VALUES of the state, and then steps
+  pub carried-low : 1 ≤ s .n → carriedValue s (s .n - 1) ≡ s .low
+  unfolding continued
+  carried-low h = term (s .n - 1) 0 (omega arith)
+
+  pub carried-high : carriedValue s (s .n) ≡ s .high
+  unfolding continued
+  carried-high = term (s .n) 1 (omega arith)
+
+  pub carried-step : (k : ℕ) → 1 ≤ s .n → s .n < k → carriedValue s k ≡ stepFrom k (carriedValue s (k - 2)) (carriedValue s (k - 1))
+  carried-step k h b =
+      let j = k - 1 - s .n in
+      let e : s .n + 1 + j ≡ k = omega arith in
+      term k (suc (suc j)) (omega arith)
+      ∙ continued-next (λ i. stepFrom (s .n + 1 + i)) (s .low) (s .high) j
+      ∙ rw (e, ← term (k - 2) j (omega arith), ← term (k - 1) (suc j) (omega arith))
+
+  -- a state that goes on to its own n is as it was
+  pub climbed-here : 1 ≤ s .n → climbedTo s (s .n) ≡ s
+  unfolding stateOf sequenceIn
+  climbed-here h = climbedTo-is s (s .n) ∙ rw (carried-low h, carried-high)
 
   -- where low and high are rungs k − 1 and k, and r is the step from them
-  module _ (k : ℕ) (low high r : Float) (from : s .n ≤ k) (el : low ≡ carried s (k - s .n) .0) (eh : high ≡ carried s (k - s .n) .1)
-      (er : r ≡ step (s .function) (s .below) (s .x) (s .f) (k + 1) low high) where
-    one-more : k + 1 - s .n ≡ suc (k - s .n)
-    one-more = omega arith
+  module _ (k : ℕ) (low high r : Float) (held : 1 ≤ s .n) (from : s .n ≤ k) (el : low ≡ carriedValue s (k - 1)) (eh : high ≡ carriedValue s k)
+      (er : r ≡ stepFrom (k + 1) low high) where
+    pub next-low : high ≡ carriedValue s (k + 1 - 1)
+    next-low = let e : k + 1 - 1 ≡ k = omega arith in rw e eh
 
-    pub next-low : high ≡ carried s (k + 1 - s .n) .0
-    next-low = rw (one-more, carried-suc s (k - s .n)) eh
-
-    pub next-high : r ≡ carried s (k + 1 - s .n) .1
+    pub next-high : r ≡ carriedValue s (k + 1)
     next-high =
-        let e : k + 1 ≡ s .n + suc (k - s .n) = omega arith in
-        er
-        ∙ rw (el, eh) (ap (λ (i : ℕ). step (s .function) (s .below) (s .x) (s .f) i (carried s (k - s .n) .0) (carried s (k - s .n) .1)) e)
-        ∙ sym (ap (λ (p : Float × Float). p .1) (carried-suc s (k - s .n)))
-        ∙ ap (λ (i : ℕ). carried s i .1) (sym one-more)
+        let a : k + 1 - 2 ≡ k - 1 = omega arith in
+        let b : k + 1 - 1 ≡ k = omega arith in
+        er ∙ rw (el, eh) (sym (rw (a, b) at (carried-step (k + 1) held (omega arith))))
 
     -- value k + 1 and derivative k, stored
     pub next-value : (t l : List Float) → t ≡ filled (carriedValue s) (s .n + 1) (s .n + 1) (k - s .n) l
@@ -46,7 +64,7 @@ module _ (s : Ladder) where
         let e : k + 1 ≡ s .n + 1 + (k - s .n) = omega arith in
         let c : k - s .n + 1 ≡ k + 1 - s .n = omega arith in
         rw et
-        (ap (λ (z : Float). set (filled (carriedValue s) (s .n + 1) (s .n + 1) (k - s .n) l) (k + 1) z) (next-high ∙ sym (carriedValue-is s (k + 1)))
+        (ap (λ (z : Float). set (filled (carriedValue s) (s .n + 1) (s .n + 1) (k - s .n) l) (k + 1) z) next-high
         ∙ ap (λ (i : ℕ). set (filled (carriedValue s) (s .n + 1) (s .n + 1) (k - s .n) l) i (carriedValue s i)) e
         ∙ filled-more (carriedValue s) (s .n + 1) (s .n + 1) (k - s .n) l
         ∙ ap (λ (i : ℕ). filled (carriedValue s) (s .n + 1) (s .n + 1) i l) c)
@@ -56,13 +74,13 @@ module _ (s : Ladder) where
     next-derivative d t l ed et =
         let e : k ≡ s .n + (k - s .n) = omega arith in
         let c : k - s .n + 1 ≡ k + 1 - s .n = omega arith in
-        let dk : d ≡ carriedDerivative s k = ed ∙ rw (carriedDerivative-is s k, carriedValue-is s k, carriedValue-is s (k + 1), eh, next-high) in
+        let dk : d ≡ carriedDerivative s k = ed ∙ rw (carriedDerivative-is s k, eh, next-high) in
         rw (et, dk)
         (ap (λ (i : ℕ). set (filled (carriedDerivative s) (s .n) (s .n) (k - s .n) l) i (carriedDerivative s i)) e
         ∙ filled-more (carriedDerivative s) (s .n) (s .n) (k - s .n) l
         ∙ ap (λ (i : ℕ). filled (carriedDerivative s) (s .n) (s .n) i l) c)
 
   -- after the last
-  pub climbed : (k top : ℕ) (low high : Float) → k ≡ top → low ≡ carried s (k - s .n) .0 → high ≡ carried s (k - s .n) .1
-      → _≡_ {A = Ladder} (record { function = s .function; below = s .below; x = s .x; f = s .f; n = top; low = low; high = high }) (climbedTo s top)
+  pub climbed : (k top : ℕ) (low high : Float) → k ≡ top → low ≡ carriedValue s (k - 1) → high ≡ carriedValue s k
+      → stateOf (sequenceIn s) top low high ≡ climbedTo s top
   climbed k top low high e el eh = rw (climbedTo-is s top, el, eh, e)

@@ -16,12 +16,11 @@ use Rattle.columns.specs.Columns.{roomFor, valueColumn, derivativeColumn}
 use Rattle.columns.proofs.Room.{room-for}
 use Rattle.value_column.proofs.Branches.{slot-filled}
 use Rattle.columns.proofs.Columns.{value-column-is, derivative-column-is}
-use Rattle.tables.specs.Tables.{valueOf, derivativeOf}
+use Rattle.tables.specs.Tables.{sequenceOf, valueOf, derivativeOf}
 use Rattle.tables.proofs.Calls.{value-is, derivative-is}
 use Rattle.machine.specs.Machine.{Request, refusal}
 use Rattle.machine.proofs.Laws.{accepted}
-use Rattle.ladder.specs.declared.Ladder.{Ladder}
-use Rattle.ladder.specs.Ladder.{stateFor}
+use Rattle.ladder.specs.Ladder.{stateOf, stateFor}
 use Rattle.ladder.specs.Ladder.Open.{stateFor-is}
 
 module _ (q : Request) (values derivatives : ℕ) (fit : T (fits binary64 (q .v))) (ok : refusal q values derivatives ≡ 0) where
@@ -39,24 +38,24 @@ module _ (q : Request) (l d : List Float) (fit : T (fits binary64 (q .v))) (ok :
 
   -- s, u, f and n are what the split gives, l1 and d1 what the fill leaves
   module _ (s : Bool) (u f : Float) (n : ℕ) (l1 d1 : List Float) (es : s ≡ below (q .v)) (eu : u ≡ shifted (q .v)) (ef : f ≡ fractionOf (q .v))
-      (en : n ≡ topRung (q .v)) (el : l1 ≡ valueColumn (q .function) s (q .x) u f n l (length d))
-      (ed : d1 ≡ derivativeColumn (q .function) s (q .x) u f n (length l) d) where
+      (en : n ≡ topRung (q .v)) (el : l1 ≡ valueColumn (record { function = q .function; below = s; x = q .x; f = f }) u n l (length d))
+      (ed : d1 ≡ derivativeColumn (record { function = q .function; below = s; x = q .x; f = f }) u n (length l) d) where
     pub started-values : l1 ≡ filled (valueOf (q .function) (q .v) (q .x)) 0 0 (topRung (q .v) + 1) l
     started-values =
         el
-        ∙ rw (es, eu, ef, en) (value-column-is (q .function) (below (q .v)) (q .x) (shifted (q .v)) (fractionOf (q .v)) (topRung (q .v)) l (length d) has-room)
+        ∙ rw (es, eu, ef, en) (value-column-is (sequenceOf (q .function) (q .v) (q .x)) (shifted (q .v)) (topRung (q .v)) l (length d) has-room)
         ∙ ap (λ (g : ℕ → Float). filled g 0 0 (topRung (q .v) + 1) l) (sym (value-is (q .function) (q .v) (q .x)))
 
     pub started-derivatives : d1 ≡ filled (derivativeOf (q .function) (q .v) (q .x)) 0 0 (topRung (q .v)) d
     started-derivatives =
         ed
-        ∙ rw (es, eu, ef, en) (derivative-column-is (q .function) (below (q .v)) (q .x) (shifted (q .v)) (fractionOf (q .v)) (topRung (q .v)) d (length l) has-room)
+        ∙ rw (es, eu, ef, en) (derivative-column-is (sequenceOf (q .function) (q .v) (q .x)) (shifted (q .v)) (topRung (q .v)) d (length l) has-room)
         ∙ ap (λ (g : ℕ → Float). filled g 0 0 (topRung (q .v)) d) (sym (derivative-is (q .function) (q .v) (q .x)))
 
-    pub started-state : _≡_ {A = Ladder} (record { function = q .function; below = s; x = q .x; f = f; n = n; low = slot l1 (n - 1); high = slot l1 n }) (stateFor q)
+    pub started-state : stateOf (record { function = q .function; below = s; x = q .x; f = f }) n (slot l1 (n - 1)) (slot l1 n) ≡ stateFor q (topRung (q .v))
     started-state =
         let v = valueOf (q .function) (q .v) (q .x) in
         let r = order-room q (length l) (length d) fit ok in
         let low : slot l1 (topRung (q .v) - 1) ≡ v (topRung (q .v) - 1) = rw started-values (slot-filled v (topRung (q .v) + 1) l (topRung (q .v) - 1) (omega arith) (omega (arith, r))) in
         let high : slot l1 (topRung (q .v)) ≡ v (topRung (q .v)) = rw started-values (slot-filled v (topRung (q .v) + 1) l (topRung (q .v)) (omega arith) (omega (arith, r))) in
-        rw (stateFor-is q, en, low, high, es, ef)
+        rw (stateFor-is q (topRung (q .v)), en, low, high, es, ef)

@@ -1,20 +1,21 @@
 -- The ladder (01, "The ladder"): its state, and what a request answers, hands back and leaves of both tables, for every state, request and table content.
 use mathlib.Core.List.{List}
 use mathlib.Core.Option.{Option, some, none}
-use Prim.Native.Nat.{ℕ, zero, suc, _+_, _-_}
+use Prim.Native.Nat.{ℕ, _+_, _-_}
 use mathlib.Core.Bool.{false}
 use lib.ListN.{length}
 use lib.Ieee.{Float}
 use Rattle.floats.specs.Operations.{f0}
-use Rattle.order.specs.Order.{below, fractionOf, topRung}
 use Rattle.recurrence.specs.declared.Function.the-variants.{D}
 use Rattle.recurrence.specs.Recurrence.{step}
+use Rattle.recurrence.specs.ThreeTerm.{continued}
 use Rattle.derivatives.specs.Derivatives.{derivative}
+use Rattle.rungs.specs.declared.Sequence.{Sequence}
 use Rattle.value_column.specs.Filled.{filled}
 use Rattle.refusals.specs.Answer.{refusalOf, pairOf}
-use Rattle.tables.specs.Tables.{valueOf, derivativeOf}
+use Rattle.tables.specs.Tables.{sequenceOf, valueOf, derivativeOf}
 use Rattle.machine.specs.declared.Held.{Held}
-use Rattle.machine.specs.Machine.{Request, asked, Verdict, refuses, repeats, climbs, startsOver, written, verdict}
+use Rattle.machine.specs.Machine.{Request, asked, Verdict, refusedBy, written, Effect, stays, goesOn, startsAt, effect, verdict}
 use Rattle.machine.specs.Held.{machineOf}
 use Rattle.ladder.specs.declared.Ladder.{Ladder}
 use Rattle.ladder.specs.declared.Written.{Written}
@@ -24,51 +25,39 @@ pub mod Open
 
 -- ---- the state
 
+-- a state by its rungs: which they are, n, and the values of rungs n − 1 and n. Every state is made here.
+unfoldable pub stateOf : Sequence → ℕ → Float → Float → Ladder
+stateOf r n low high = record { function = r .function; below = r .below; x = r .x; f = r .f; n = n; low = low; high = high }
+
+-- which rungs a state holds
+unfoldable pub sequenceIn : Ladder → Sequence
+sequenceIn s = record { function = s .function; below = s .below; x = s .x; f = s .f }
+
 -- a state that holds nothing: every field is 0
 pub emptyState : Ladder
-emptyState = record { function = D; below = false; x = f0; f = f0; n = 0; low = f0; high = f0 }
+emptyState = stateOf (record { function = D; below = false; x = f0; f = f0 }) 0 f0 f0
 
 -- the fields of a state, its two values left out
 unfoldable pub heldIn : Ladder → Held
 heldIn s = record { function = s .function; below = s .below; x = s .x; f = s .f; n = s .n }
 
--- the state that holds a request, with values n − 1 and n of the table call
-pub stateFor : Request → Ladder
-stateFor q = record {
-  function = q .function;
-  below = below (q .v);
-  x = q .x;
-  f = fractionOf (q .v);
-  n = topRung (q .v);
-  low = valueOf (q .function) (q .v) (q .x) (topRung (q .v) - 1);
-  high = valueOf (q .function) (q .v) (q .x) (topRung (q .v));
-}
+-- the state that holds rungs 0 to n of a request, with values n − 1 and n of the table call
+pub stateFor : Request → ℕ → Ladder
+stateFor q n = stateOf (sequenceOf (q .function) (q .v) (q .x)) n (valueOf (q .function) (q .v) (q .x) (n - 1)) (valueOf (q .function) (q .v) (q .x) n)
 
 -- ---- a climb: the recurrence and the derivative formula carried on from the state's two values
 
--- rungs n − 1 + i and n + i
-pub carried : Ladder → ℕ → Float × Float
-carried s zero = (s .low, s .high)
-carried s (suc i) = let r = carried s i in (r .1, step (s .function) (s .below) (s .x) (s .f) (s .n + suc i) (r .0) (r .1))
-
--- value k and derivative k, from the held n on
+-- value k, from the held n − 1 on
 pub carriedValue : Ladder → ℕ → Float
-carriedValue s k = carried s (k - s .n) .1
+carriedValue s k = continued (λ i. step (s .function) (s .below) (s .x) (s .f) (s .n + 1 + i)) (s .low) (s .high) (k + 1 - s .n)
 
+-- derivative k
 pub carriedDerivative : Ladder → ℕ → Float
 carriedDerivative s k = derivative (s .function) (s .below) (s .x) (s .f) k (carriedValue s k) (carriedValue s (k + 1))
 
 -- the state at a higher n
 pub climbedTo : Ladder → ℕ → Ladder
-climbedTo s n = record {
-  function = s .function;
-  below = s .below;
-  x = s .x;
-  f = s .f;
-  n = n;
-  low = carried s (n - s .n) .0;
-  high = carried s (n - s .n) .1;
-}
+climbedTo s n = stateOf (sequenceIn s) n (carriedValue s (n - 1)) (carriedValue s n)
 
 -- ---- what a request answers, hands back and leaves
 
@@ -91,13 +80,19 @@ writtenOf Nothing = none
 unfoldable pub givenBy : Reply → Given
 givenBy r = record { state = r .state; refusal = refusalOf (r .answer); pair = pairOf (r .answer); written = writtenOf (r .written) }
 
--- a refusal gives its number alone, and the state as it came
-unfoldable pub refused : ℕ → Ladder → Given
-refused number s = record { state = s; refusal = number; pair = none; written = none }
+-- a refusal gives its number alone, and any other request answers from the state that it hands back
+unfoldable pub pairThen : Effect → Ladder → Option (Float × Float)
+pairThen stays s = none
+pairThen (goesOn m n) s = some (pairFrom s)
+pairThen (startsAt n) s = some (pairFrom s)
 
--- an accepted request answers from the state that it hands back
-unfoldable pub accepted : Option ℕ → Ladder → Given
-accepted count s = record { state = s; refusal = 0; pair = some (pairFrom s); written = count }
+-- by what the machine says, with the state handed back
+unfoldable pub givenOn : Verdict → Ladder → Given
+givenOn w s = record { state = s; refusal = refusedBy w; pair = pairThen (effect w) s; written = written w }
+
+-- an accepted request, with its written count
+unfoldable pub answered : ℕ → Ladder → Given
+answered count s = record { state = s; refusal = 0; pair = some (pairFrom s); written = some count }
 
 -- what is given, and both tables as they are left
 pub record Outcome : Type 0 where
@@ -108,19 +103,27 @@ pub record Outcome : Type 0 where
 abbrev pub outcome : Given → List Float → List Float → Outcome
 outcome given values derivatives = record { given = given; values = values; derivatives = derivatives }
 
--- by what the machine says: a repeat writes nothing; a climb from m to n writes values m + 1 to n and derivatives m to n − 1; a start-over values 0 to n
--- and derivatives 0 to n − 1. Neither repeat nor climb reads a table.
+-- the state handed back, and the two tables: what goes on from m to n writes values m + 1 to n and derivatives m to n − 1, and reads no table; what starts
+-- over at n writes values 0 to n and derivatives 0 to n − 1
+pub stateThen : Effect → Ladder → Request → Ladder
+stateThen stays s q = s
+stateThen (goesOn m n) s q = climbedTo s n
+stateThen (startsAt n) s q = stateFor q n
+
+pub valuesThen : Effect → Ladder → Request → List Float → List Float
+valuesThen stays s q l = l
+valuesThen (goesOn m n) s q l = filled (carriedValue s) (m + 1) (m + 1) (n - m) l
+valuesThen (startsAt n) s q l = filled (valueOf (q .function) (q .v) (q .x)) 0 0 (n + 1) l
+
+pub derivativesThen : Effect → Ladder → Request → List Float → List Float
+derivativesThen stays s q l = l
+derivativesThen (goesOn m n) s q l = filled (carriedDerivative s) m m (n - m) l
+derivativesThen (startsAt n) s q l = filled (derivativeOf (q .function) (q .v) (q .x)) 0 0 n l
+
+-- by what the machine says
 pub outcomeBy : Verdict → Ladder → Request → List Float → List Float → Outcome
-outcomeBy (refuses number) s q values derivatives = outcome (refused number s) values derivatives
-outcomeBy (repeats n) s q values derivatives = outcome (accepted (written (repeats n)) s) values derivatives
-outcomeBy (climbs m n) s q values derivatives =
-    outcome (accepted (written (climbs m n)) (climbedTo s n))
-    (filled (carriedValue s) (m + 1) (m + 1) (n - m) values)
-    (filled (carriedDerivative s) m m (n - m) derivatives)
-outcomeBy (startsOver n) s q values derivatives =
-    outcome (accepted (written (startsOver n)) (stateFor q))
-    (filled (valueOf (q .function) (q .v) (q .x)) 0 0 (n + 1) values)
-    (filled (derivativeOf (q .function) (q .v) (q .x)) 0 0 n derivatives)
+outcomeBy w s q values derivatives =
+    outcome (givenOn w (stateThen (effect w) s q)) (valuesThen (effect w) s q values) (derivativesThen (effect w) s q derivatives)
 
 -- the machine begun with the state's fields says which it is
 pub requested : Ladder → Request → List Float → List Float → Outcome

@@ -1,42 +1,28 @@
 // What is done on a judgement.
 
 ghost use mathlib.Core.Path.{_≡_};
-ghost use mathlib.Core.Option.{some};
 ghost use Prim.Native.Nat.{_+_, _≤_};
 ghost use lib.ListN.{length};
 ghost use Rattle.order.specs.Order.{topRung};
 ghost use Rattle.value_column.specs.Filled.{filled};
 ghost use Rattle.tables.specs.Tables.{valueOf, derivativeOf};
-ghost use Rattle.machine.specs.Machine.{asks, asked, refusal, verdict};
+ghost use Rattle.machine.specs.Machine.{asks, asked, refusal, refuses, verdict};
 ghost use Rattle.machine.specs.Held.{machineOf, verdictOf};
-ghost use Rattle.ladder.specs.Ladder.{heldIn, stateFor, givenBy, refused, accepted, outcome, outcomeBy};
+ghost use Rattle.ladder.specs.Ladder.{heldIn, stateFor, givenBy, givenOn, answered, outcome, outcomeBy};
 use crate::Ladder;
 use crate::Reply;
 use crate::Written;
 use crate::climbing::climb;
-use machine::Held;
+use crate::states::state_of;
 use machine::Judgement;
 use order::Rung;
 use recurrence::Function;
+use rungs::Sequence;
 use tables::Answer;
-
-// The fields of a state, its two values left out.
-pub(crate) fn held_in(s: Ladder) -> Held
-    ensures { λ r. ⌜ r ≡ heldIn s ⌝ }
-{
-    let function = s.function;
-    Held {
-        function: function,
-        below: s.below,
-        x: s.x,
-        f: s.f,
-        n: s.n,
-    }
-}
 
 // The reply of a refusal.
 fn refuse(s: Ladder, number: u8) -> Reply
-    ensures { λ r. ⌜ givenBy r ≡ refused number s ⌝ }
+    ensures { λ r. ⌜ givenBy r ≡ givenOn (refuses number) s ⌝ }
 {
     Reply {
         state: s,
@@ -48,7 +34,7 @@ fn refuse(s: Ladder, number: u8) -> Reply
 // The reply of an accepted request, from the state that it hands back.
 fn answer(s: Ladder, count: Rung) -> Reply
     requires { ⌜ 1 ≤ s .n ⌝ }
-    ensures { λ r. ⌜ givenBy r ≡ accepted (some count) s ⌝ }
+    ensures { λ r. ⌜ givenBy r ≡ answered count s ⌝ }
 {
     let function = s.function;
     let low = s.low;
@@ -69,26 +55,22 @@ fn start_over(
     x: f64,
 ) -> Ladder
     requires { ⌜ refusal (asks function v x) (length (now values)) (length (now derivatives)) ≡ 0 ⌝ }
-    ensures state { λ r. ⌜ r ≡ stateFor (asks function v x) ⌝ }
+    ensures state { λ r. ⌜ r ≡ stateFor (asks function v x) (topRung v) ⌝ }
     ensures values { λ _. ⌜ now (values .exit) ≡ filled (valueOf function v x) 0 0 (topRung v + 1) (now (values .entry)) ⌝ }
     ensures derivatives { λ _. ⌜ now (derivatives .exit) ≡ filled (derivativeOf function v x) 0 0 (topRung v) (now (derivatives .entry)) ⌝ }
 {
     let o = order::split(v);
     let n = o.n;
-    let below = o.below;
-    let f = o.f;
-    columns::fill_columns(values, derivatives, function, below, x, o.u, f, n);
+    let sequence = Sequence {
+        function: function,
+        below: o.below,
+        x: x,
+        f: o.f,
+    };
+    columns::fill_columns(values, derivatives, sequence, o.u, n);
     let top = n as usize;
     let last = top - 1;
-    Ladder {
-        function: function,
-        below: below,
-        x: x,
-        f: f,
-        n: n,
-        low: values[last],
-        high: values[top],
-    }
+    state_of(sequence, n, values[last], values[top])
 }
 
 // Acts on the judgement of a request.

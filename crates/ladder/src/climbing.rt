@@ -6,10 +6,13 @@ ghost use lib.ListN.{length};
 ghost use Rattle.value_column.specs.Filled.{filled};
 ghost use Rattle.ladder.specs.Ladder.{carriedValue, carriedDerivative, climbedTo};
 use crate::Ladder;
+use crate::states::sequence_in;
+use crate::states::state_of;
 use order::Rung;
 
 // Stores values n + 1 to `top` and derivatives n to top - 1, and gives the state at `top`. No slot is read.
 pub(crate) fn climb(values: &mut [f64], derivatives: &mut [f64], s: Ladder, top: Rung) -> Ladder
+    requires some { ⌜ 1 ≤ s .n ⌝ }
     requires rising { ⌜ s .n < top ⌝ }
     requires few { ⌜ top ≤ 1000 ⌝ }
     requires room { ⌜ top < length (now values) ⌝ }
@@ -19,28 +22,17 @@ pub(crate) fn climb(values: &mut [f64], derivatives: &mut [f64], s: Ladder, top:
     ensures derivatives { λ _. ⌜ now (derivatives .exit) ≡ filled (carriedDerivative s) (s .n) (s .n) (top - s .n) (now (derivatives .entry)) ⌝ }
 {
     let function = s.function;
-    let below = s.below;
-    let x = s.x;
-    let f = s.f;
     let held = s.n;
     let mut low = s.low;
     let mut high = s.high;
     for k in held..top {
-        let r = recurrence::step(function, below, x, f, k + 1, low, high);
+        let r = recurrence::step(function, s.below, s.x, s.f, k + 1, low, high);
         let at = k as usize;
         let next = at + 1;
-        derivatives[at] = derivatives::derivative(function, below, x, f, k, high, r);
+        derivatives[at] = derivatives::derivative(function, s.below, s.x, s.f, k, high, r);
         values[next] = r;
         low = high;
         high = r;
     }
-    Ladder {
-        function: function,
-        below: below,
-        x: x,
-        f: f,
-        n: top,
-        low: low,
-        high: high,
-    }
+    state_of(sequence_in(s), top, low, high)
 }

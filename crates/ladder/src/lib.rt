@@ -3,6 +3,7 @@
 
 mod actions;
 mod climbing;
+mod states;
 
 ghost use mathlib.Core.Path.{_≡_};
 ghost use mathlib.Core.Bool.{true};
@@ -10,12 +11,15 @@ ghost use Rattle.machine.specs.Machine.{asks};
 ghost use Rattle.machine.specs.Held.{countsEmpty};
 ghost use Rattle.ladder.specs.Ladder.{emptyState, heldIn, givenBy, outcome, requested};
 use actions::act;
-use actions::held_in;
 use order::Rung;
 use recurrence::Function;
+use rungs::Sequence;
+use states::held_in;
+pub use states::state_of;
 use tables::Answer;
 
-// The state: function, side (v < 0 or not), argument, fraction of the order, n, and the values of rungs n - 1 and n. It is empty where n is 0.
+// The state: function, side (v < 0 or not), argument, fraction of the order, n, and the values of rungs n - 1 and n. It counts as empty where n is 0 or above
+// 1000, x or f is NaN, or the size of f is 1 or more.
 pub struct Ladder {
     pub function: Function,
     pub below: bool,
@@ -45,15 +49,13 @@ impl Ladder {
         ensures state { λ r. ⌜ r ≡ emptyState ⌝ }
         ensures empty { λ r. ⌜ countsEmpty (heldIn r) ≡ true ⌝ }
     {
-        Ladder {
+        let nothing = Sequence {
             function: Function::D,
             below: false,
             x: 0.0,
             f: 0.0,
-            n: 0,
-            low: 0.0,
-            high: 0.0,
-        }
+        };
+        state_of(nothing, 0, 0.0, 0.0)
     }
 
     // D or V at order v and argument x: the request is judged, and then acted on.

@@ -14,7 +14,7 @@ use Rattle.branches.specs.Branches.{runsForward}
 use Rattle.table_refusals.specs.Refusals.{refusalBy}
 use Rattle.machine.specs.declared.Held.{Held}
 use Rattle.machine.specs.Machine.{Request, asked, tooShort, refusal, Machine, bitsOf, Verdict, refuses, repeats, climbs, startsOver, sameFunction, sameRungs, mayClimb, caseBy, verdict}
-use Rattle.machine.specs.Machine.Open.{tooShort-is, refusal-is, bitsOf-is, sameRungs-is, mayClimb-is, caseBy-empty, caseBy-holds, caseOf-is, verdict-is}
+use Rattle.machine.specs.Machine.Open.{tooShort-is, refusal-is, bitsOf-is, sameRungs-is, mayClimb-is, caseBy-empty, caseBy-holds, caseOf-is, verdictOn-request, verdict-is}
 use Rattle.machine.specs.Held.{countsEmpty, machineOf}
 use Rattle.machine.specs.Held.Open.{countsEmpty-is, machineOf-is}
 
@@ -118,9 +118,9 @@ module _ (q : Request) (values derivatives : ℕ) where
 
 module _ (m : Machine) (q : Request) (values derivatives : ℕ) where
   pub verdict-refused : (k : ℕ) → k ≡ refusal q values derivatives → (k ≡ 0 → ⊥) → refuses k ≡ verdict m (asked q values derivatives)
-  verdict-refused k e h = rw (verdict-is m q values derivatives, ne-eqb (refusal q values derivatives) 0 (λ z. h (e ∙ z))) (ap refuses e)
+  verdict-refused k e h = rw (verdict-is m (asked q values derivatives), verdictOn-request m q values derivatives, ne-eqb (refusal q values derivatives) 0 (λ z. h (e ∙ z))) (ap refuses e)
 
   pub verdict-accepted : (s : Bool) (f : Float) (n : ℕ) (r : Verdict) → refusal q values derivatives ≡ 0 → s ≡ below (q .v) → f ≡ fractionOf (q .v)
       → n ≡ topRung (q .v) → r ≡ caseBy m (q .function) s (bitsOf (q .x)) (bitsOf f) n → r ≡ verdict m (asked q values derivatives)
   verdict-accepted s f n r ok es ef en er =
-      er ∙ rw (verdict-is m q values derivatives, eq-eqb (refusal q values derivatives) 0 ok, caseOf-is m q, es, ef, en)
+      er ∙ rw (verdict-is m (asked q values derivatives), verdictOn-request m q values derivatives, eq-eqb (refusal q values derivatives) 0 ok, caseOf-is m q, es, ef, en)

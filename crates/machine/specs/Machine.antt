@@ -1,6 +1,6 @@
--- 01's ladder machine ("The ladder"): which requests are refused, which of the three cases an accepted one is, how many rungs it counts, and what the
--- machine holds then. It is fed requests and the lengths of their two tables. Its record is function, side, the bits of x and f, and n: no value, no table
--- slot and no state of the program enters it.
+-- 01's ladder machine ("The ladder"): which requests are refused, which of the three cases an accepted one is, how many
+-- rungs it counts, and what the machine holds then. It is fed the inputs of calls and the lengths of their two tables.
+-- Its record is function, side, the bits of x and f, and n: no value, table slot or state of the program enters it.
 use mathlib.Core.List.{List, [], _∷_}
 use mathlib.Core.Option.{Option, some, none}
 use Prim.Native.Nat.{ℕ, _+_, _-_}
@@ -26,9 +26,18 @@ pub record Request : Type 0 where
 abbrev pub asks : Function → Float → Float → Request
 asks fn v x = record { function = fn; v = v; x = x }
 
+-- the inputs of a call, a case for each kind of call
+pub data Inputs : Type 0 where
+  request : Request → Inputs
+
 -- ... with the lengths of its value table and its derivative table
-pub data Feed : Type 0 where
-  asked : Request → ℕ → ℕ → Feed
+pub record Feed : Type 0 where
+  pub inputs : Inputs
+  pub values : ℕ
+  pub derivatives : ℕ
+
+abbrev pub asked : Request → ℕ → ℕ → Feed
+asked q values derivatives = record { inputs = request q; values = values; derivatives = derivatives }
 
 -- ---- the refusals
 
@@ -50,8 +59,9 @@ pub data Machine : Type 0 where
 pub bitsOf : Float → ℕ
 bitsOf x = toBits binary64 x
 
-pub holding : Request → Machine
-holding q = holds (q .function) (below (q .v)) (bitsOf (q .x)) (bitsOf (fractionOf (q .v))) (topRung (q .v))
+-- the record of a request, with the n that is held
+pub holding : Request → ℕ → Machine
+holding q n = holds (q .function) (below (q .v)) (bitsOf (q .x)) (bitsOf (fractionOf (q .v))) n
 
 -- ---- what it says to a request
 
@@ -68,6 +78,26 @@ written (refuses k) = none
 written (repeats n) = some 0
 written (climbs m n) = some (n - m)
 written (startsOver n) = some (n + 1)
+
+-- the refusal's number, 0 where there is none
+unfoldable pub refusedBy : Verdict → ℕ
+refusedBy (refuses number) = number
+refusedBy (repeats n) = 0
+refusedBy (climbs m n) = 0
+refusedBy (startsOver n) = 0
+
+-- what a verdict does to the rungs held: they stay as found, they go on from m to n, or they start over at n. A repeat
+-- goes on from n to n.
+pub data Effect : Type 0 where
+  stays : Effect
+  goesOn : ℕ → ℕ → Effect
+  startsAt : ℕ → Effect
+
+unfoldable pub effect : Verdict → Effect
+effect (refuses number) = stays
+effect (repeats n) = goesOn n n
+effect (climbs m n) = goesOn m n
+effect (startsOver n) = startsAt n
 
 pub sameFunction : Function → Function → Bool
 sameFunction D D = true
@@ -94,13 +124,22 @@ caseBy (holds fn s x f m) fn' s' x' f' n =
 pub caseOf : Machine → Request → Verdict
 caseOf m q = caseBy m (q .function) (below (q .v)) (bitsOf (q .x)) (bitsOf (fractionOf (q .v))) (topRung (q .v))
 
-pub verdict : Machine → Feed → Verdict
-verdict m (asked q values derivatives) = cond (eqb (refusal q values derivatives) 0) (caseOf m q) (refuses (refusal q values derivatives))
+-- by the inputs of the call
+pub verdictOn : Machine → Inputs → ℕ → ℕ → Verdict
+verdictOn m (request q) values derivatives = cond (eqb (refusal q values derivatives) 0) (caseOf m q) (refuses (refusal q values derivatives))
 
--- ---- what it holds then: a refused request changes nothing, and any other is held
+pub verdict : Machine → Feed → Verdict
+verdict m d = verdictOn m (d .inputs) (d .values) (d .derivatives)
+
+-- ---- what it holds then, by the effect of what it says: a refused call changes nothing in it; any other is held
+
+pub heldThen : Machine → Effect → Inputs → Machine
+heldThen m stays i = m
+heldThen m (goesOn k n) (request q) = holding q n
+heldThen m (startsAt n) (request q) = holding q n
 
 pub next : Machine → Feed → Machine
-next m (asked q values derivatives) = cond (eqb (refusal q values derivatives) 0) (holding q) m
+next m d = heldThen m (effect (verdict m d)) (d .inputs)
 
 -- ---- on a list: what it says to each, and what it holds after the last
 

@@ -53,7 +53,10 @@ fn same_rungs(held: Held, function: Function, below: bool, x: f64, f: f64) -> bo
     requires held_fraction { ⌜ isNan (held .f) ≡ false ⌝ }
     requires argument { ⌜ isNan x ≡ false ⌝ }
     requires fraction { ⌜ isNan f ≡ false ⌝ }
-    ensures { λ r. ⌜ r ≡ sameRungs (held .function) (held .below) (bitsOf (held .x)) (bitsOf (held .f)) function below (bitsOf x) (bitsOf f) ⌝ }
+    ensures { λ r. ⌜
+        r ≡ sameRungs (held .function) (held .below) (bitsOf (held .x)) (bitsOf (held .f))
+        function below (bitsOf x) (bitsOf f)
+        ⌝ }
 {
     let held_function = held.function;
     if !same_function(held_function, function) {

@@ -1,5 +1,5 @@
-// The ladder machine's side of a request: what a ladder holds, and how a request to it is judged. No D or V is worked out here, and no value that a ladder
-// holds is seen. Each public function answers every input.
+// The ladder machine's side of a request: what a ladder holds, and how a request to it is judged. No D or V is worked
+// out here, and no value that a ladder holds is seen. Each public function answers every input.
 
 mod cases;
 
@@ -19,7 +19,7 @@ pub struct Held {
     pub n: Rung,
 }
 
-// What comes of a request: the number of its refusal; or the case, with the new n, and for a climb the held one before it.
+// What comes of a request: the number of its refusal; or the case, with the new n, and for a climb the n held before.
 pub enum Judgement {
     Refused(u8),
     Repeat(Rung),

@@ -3,6 +3,7 @@
 ghost use mathlib.Core.Path.{_≡_};
 ghost use Rattle.rungs.specs.Rungs.{startSum, smallLimit, startValue, startsGaussian, nextOrder, startRungs, topRungs, seed};
 use crate::Adjacent;
+use crate::Sequence;
 use exponential::exp;
 use order::Rung;
 use recurrence::Function;
@@ -40,14 +41,15 @@ fn small_limit(function: Function) -> f64
     }
 }
 
-// The function by the start sum for this argument.
-pub fn start_value(function: Function, x: f64, va: f64) -> f64
-    ensures { λ r. ⌜ r ≡ startValue function x va ⌝ }
+// The function at another order, by the start sum for this argument.
+pub fn start_value(sequence: Sequence, va: f64) -> f64
+    ensures { λ r. ⌜ r ≡ startValue sequence va ⌝ }
 {
-    if abs(x) <= small_limit(function) {
-        return start_sum(function, false, x, va);
+    let function = sequence.function;
+    if abs(sequence.x) <= small_limit(function) {
+        return start_sum(function, false, sequence.x, va);
     }
-    start_sum(function, true, x, va)
+    start_sum(function, true, sequence.x, va)
 }
 
 // Whether rungs 0 and 1 are e^(-x²/4) and x times it: D from order 0 on, at f = 0.
@@ -73,43 +75,46 @@ fn next_order(below: bool, f: f64) -> f64
 }
 
 // Rungs 0 and 1 of the forward branches, whatever n is.
-pub fn start_rungs(function: Function, below: bool, x: f64, f: f64) -> Adjacent
-    ensures { λ r. ⌜ (r .low, r .high) ≡ startRungs function below x f ⌝ }
+pub fn start_rungs(sequence: Sequence) -> Adjacent
+    ensures { λ r. ⌜ (r .low, r .high) ≡ startRungs sequence ⌝ }
 {
-    if starts_gaussian(function, below, f) {
+    let function = sequence.function;
+    let x = sequence.x;
+    if starts_gaussian(function, sequence.below, sequence.f) {
         let ep = exp(-0.25 * x * x);
         return Adjacent {
             low: ep,
             high: x * ep,
         };
     }
-    if has_own_rung_two(function, below, f) {
+    if has_own_rung_two(function, sequence.below, sequence.f) {
         return Adjacent {
-            low: start_value(function, x, f),
+            low: start_value(sequence, sequence.f),
             high: SQRT_FRAC_2_PI * exp(0.25 * x * x),
         };
     }
     Adjacent {
-        low: start_value(function, x, f),
-        high: start_value(function, x, next_order(below, f)),
+        low: start_value(sequence, sequence.f),
+        high: start_value(sequence, next_order(sequence.below, sequence.f)),
     }
 }
 
 // Rungs n - 1 and n of the downward branches.
-pub fn top_rungs(function: Function, x: f64, u: f64, f: f64, n: Rung) -> Adjacent
-    ensures { λ r. ⌜ (r .low, r .high) ≡ topRungs function x u f n ⌝ }
+pub fn top_rungs(sequence: Sequence, u: f64, n: Rung) -> Adjacent
+    ensures { λ r. ⌜ (r .low, r .high) ≡ topRungs sequence u n ⌝ }
 {
+    let function = sequence.function;
     match function {
         Function::D => {
-            let v2 = -(n as f64) + f;
+            let v2 = -(n as f64) + sequence.f;
             Adjacent {
-                low: start_sum(function, false, x, v2 + 1.0),
-                high: start_sum(function, false, x, v2),
+                low: start_sum(function, false, sequence.x, v2 + 1.0),
+                high: start_sum(function, false, sequence.x, v2),
             }
         }
         Function::V => Adjacent {
-            low: start_sum(function, false, x, u - 1.0),
-            high: start_sum(function, false, x, u),
+            low: start_sum(function, false, sequence.x, u - 1.0),
+            high: start_sum(function, false, sequence.x, u),
         },
     }
 }

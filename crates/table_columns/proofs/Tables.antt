@@ -12,6 +12,7 @@ use lib.ListN.{length, getD, set}
 use lib.Ieee.{Float, nan}
 use Rattle.floats.specs.Operations.{_⊗_}
 use Rattle.recurrence.specs.declared.Function.{Function}
+use Rattle.rungs.specs.declared.Sequence.{Sequence}
 use Rattle.recurrence.specs.Recurrence.{ownRungTwo}
 use Rattle.derivatives.specs.Derivatives.{derivative}
 use Rattle.rungs.specs.Rungs.{rung}
@@ -27,38 +28,38 @@ use Rattle.table_columns.specs.TableColumns.{roomIn, valuesIn, bothColum
 use Rattle.table_columns.specs.TableColumns.Open.{bothColumns-is, valuesIn-is}
 use Rattle.table_columns.proofs.Room.{room-in-facts}
 
-module _ (fn : Function) (below : Bool) (x f : Float) where
+module _ (r : Sequence) where
   -- over the values in the same table, which are below slot num
-  pub derived-slot : (num n k : ℕ) (r : Float) (t l : List Float) → k < n → n < num → t ≡ filled (derivativeOver fn below x f l) 0 num k l
-      → r ≡ derivative fn below x f k (getD t k nan) (getD t (k + 1) nan) → set t (num + k) r ≡ filled (derivativeOver fn below x f l) 0 num (k + 1) l
+  pub derived-slot : (num n k : ℕ) (w : Float) (t l : List Float) → k < n → n < num → t ≡ filled (derivativeOver r l) 0 num k l
+      → w ≡ derivative (r .function) (r .below) (r .x) (r .f) k (getD t k nan) (getD t (k + 1) nan) → set t (num + k) w ≡ filled (derivativeOver r l) 0 num (k + 1) l
   unfolding derivativeOver slot
-  derived-slot num n k r t l h apart et er =
-      let d = derivativeOver fn below x f l in
+  derived-slot num n k w t l h apart et er =
+      let d = derivativeOver r l in
       let low : getD t k nan ≡ getD l k nan = rw et (filled-out d 0 num k l nan k (inl (omega arith))) in
       let high : getD t (k + 1) nan ≡ getD l (k + 1) nan = rw et (filled-out d 0 num k l nan (k + 1) (inl (omega arith))) in
       rw (er, low, high, et) (rw zero-add at (filled-more d 0 num k l))
 
 -- value 2 of a branch that has its own, stored beside values 0 and 1
-own-two : (fn : Function) (s : Bool) (x u f : Float) (l l1 : List Float) → 2 < length l → ownRungTwo fn s f ≡ true → l1 ≡ filled (value fn s x u f 1) 0 0 2 l
-    → set l1 2 (x ⊗ slot l1 1) ≡ filled (value fn s x u f 1) 0 0 3 l
-own-two fn s x u f l l1 room own e1 =
-    let v = value fn s x u f 1 in
-    let forward : v ≡ rung fn s x f = value-forward fn s x u f 1 (own-forward fn s x u f own) in
+own-two : (r : Sequence) (u : Float) (l l1 : List Float) → 2 < length l → ownRungTwo (r .function) (r .below) (r .f) ≡ true → l1 ≡ filled (value r u 1) 0 0 2 l
+    → set l1 2 (r .x ⊗ slot l1 1) ≡ filled (value r u 1) 0 0 3 l
+own-two r u l l1 room own e1 =
+    let v = value r u 1 in
+    let forward : v ≡ rung r = value-forward r u 1 (own-forward (r .function) (r .below) (r .x) u (r .f) own) in
     let one : slot l1 1 ≡ v 1 = rw e1 (slot-filled v 2 l 1 (omega arith) (omega arith)) in
-    let two : x ⊗ v 1 ≡ v 2 = rw forward (own-rung-two fn s x f own) in
+    let two : r .x ⊗ v 1 ≡ v 2 = rw forward (own-rung-two r own) in
     rw (one, two, e1) (filled-more v 0 0 2 l)
 
-with-own-two : (fn : Function) (s : Bool) (x u f : Float) (n : ℕ) (l l1 : List Float) → 2 < length l → l1 ≡ filled (value fn s x u f n) 0 0 (n + 1) l
-    → cond (ownRungTwo fn s f && eqb n 1) (set l1 2 (x ⊗ slot l1 1)) l1 ≡ filled (value fn s x u f n) 0 0 (valuesIn fn s f n) l
-with-own-two fn s x u f n l l1 room e1 = rw (valuesIn-is fn s f n) (go (ownRungTwo fn s f) (eqb n 1) refl refl)
+with-own-two : (r : Sequence) (u : Float) (n : ℕ) (l l1 : List Float) → 2 < length l → l1 ≡ filled (value r u n) 0 0 (n + 1) l
+    → cond (ownRungTwo (r .function) (r .below) (r .f) && eqb n 1) (set l1 2 (r .x ⊗ slot l1 1)) l1 ≡ filled (value r u n) 0 0 (valuesIn (r .function) (r .below) (r .f) n) l
+with-own-two r u n l l1 room e1 = rw (valuesIn-is (r .function) (r .below) (r .f) n) (go (ownRungTwo (r .function) (r .below) (r .f)) (eqb n 1) refl refl)
   where
-    go : (own one : Bool) → ownRungTwo fn s f ≡ own → eqb n 1 ≡ one
-        → cond (own && one) (set l1 2 (x ⊗ slot l1 1)) l1 ≡ filled (value fn s x u f n) 0 0 (cond (own && one) 3 (n + 1)) l
+    go : (own one : Bool) → ownRungTwo (r .function) (r .below) (r .f) ≡ own → eqb n 1 ≡ one
+        → cond (own && one) (set l1 2 (r .x ⊗ slot l1 1)) l1 ≡ filled (value r u n) 0 0 (cond (own && one) 3 (n + 1)) l
     go false one a b = e1
     go true false a b = e1
     go true true a b =
         let e : n ≡ 1 = eqb-true n 1 b in
-        rw e (own-two fn s x u f l l1 room a (rw e at e1))
+        rw e (own-two r u l l1 room a (rw e at e1))
 
 -- between n + 1 and n + 2 values are written
 pub values-in : (fn : Function) (s : Bool) (f : Float) (n : ℕ) → (n + 1 ≤ valuesIn fn s f n) × (valuesIn fn s f n ≤ n + 2)
@@ -79,29 +80,29 @@ three-values fn s f n own one = rw (valuesIn-is fn s f n, own, eq-eqb n 1 one)
 pub plain-values : (fn : Function) (s : Bool) (f : Float) (n : ℕ) → ownRungTwo fn s f ≡ false → valuesIn fn s f n ≡ n + 1
 plain-values fn s f n own = rw (valuesIn-is fn s f n, own)
 
-module _ (fn : Function) (s : Bool) (x u f : Float) (n num : ℕ) (l : List Float) where
+module _ (r : Sequence) (u : Float) (n num : ℕ) (l : List Float) where
   -- what `fill_table` leaves where there is room, and where there is none
   pub both-filled : roomIn n num (length l) ≡ true
-      → bothColumns fn s x u f n num l ≡ filled (derivativeAt fn s x u f n) 0 num n (filled (value fn s x u f n) 0 0 (valuesIn fn s f n) l)
-  both-filled room = rw (bothColumns-is fn s x u f n num l, room)
+      → bothColumns r u n num l ≡ filled (derivativeAt r u n) 0 num n (filled (value r u n) 0 0 (valuesIn (r .function) (r .below) (r .f) n) l)
+  both-filled room = rw (bothColumns-is r u n num l, room)
 
-  pub both-left : roomIn n num (length l) ≡ false → l ≡ bothColumns fn s x u f n num l
-  both-left room = rw (bothColumns-is fn s x u f n num l, room)
+  pub both-left : roomIn n num (length l) ≡ false → l ≡ bothColumns r u n num l
+  both-left room = rw (bothColumns-is r u n num l, room)
 
-  pub both-columns : (l1 l2 l3 : List Float) → roomIn n num (length l) ≡ true → l1 ≡ allValues fn s x u f n l
-      → l2 ≡ cond (ownRungTwo fn s f && eqb n 1) (set l1 2 (x ⊗ slot l1 1)) l1 → l3 ≡ filled (derivativeOver fn s x f l2) 0 num n l2
-      → l3 ≡ bothColumns fn s x u f n num l
+  pub both-columns : (l1 l2 l3 : List Float) → roomIn n num (length l) ≡ true → l1 ≡ allValues r u n l
+      → l2 ≡ cond (ownRungTwo (r .function) (r .below) (r .f) && eqb n 1) (set l1 2 (r .x ⊗ slot l1 1)) l1 → l3 ≡ filled (derivativeOver r l2) 0 num n l2
+      → l3 ≡ bothColumns r u n num l
   unfolding derivativeOver
   both-columns l1 l2 l3 room e1 e2 e3 =
-      let v = value fn s x u f n in
-      let c = valuesIn fn s f n in
-      let many = values-in fn s f n in
-      let r = room-in-facts n num (length l) room in
-      let values : l2 ≡ filled v 0 0 c l = e2 ∙ with-own-two fn s x u f n l l1 (omega (arith, r)) (e1 ∙ all-values fn s x u f n l (r .0) (r .1) (omega (arith, r))) in
-      let at : (k : ℕ) → k ≤ n → slot l2 k ≡ v k = λ k h. rw values (slot-filled v c l k (omega (arith, many)) (omega (arith, many, r))) in
-      let each : (k : ℕ) → k < n → derivativeOver fn s x f l2 (0 + k) ≡ derivativeAt fn s x u f n (0 + k) =
-      λ k h. rw (at (0 + k) (omega arith), at (0 + k + 1) (omega arith)) (sym (derivative-at fn s x u f n (0 + k))) in
+      let v = value r u n in
+      let c = valuesIn (r .function) (r .below) (r .f) n in
+      let many = values-in (r .function) (r .below) (r .f) n in
+      let w = room-in-facts n num (length l) room in
+      let values : l2 ≡ filled v 0 0 c l = e2 ∙ with-own-two r u n l l1 (omega (arith, w)) (e1 ∙ all-values r u n l (w .0) (w .1) (omega (arith, w))) in
+      let at : (k : ℕ) → k ≤ n → slot l2 k ≡ v k = λ k h. rw values (slot-filled v c l k (omega (arith, many)) (omega (arith, many, w))) in
+      let each : (k : ℕ) → k < n → derivativeOver r l2 (0 + k) ≡ derivativeAt r u n (0 + k) =
+      λ k h. rw (at (0 + k) (omega arith), at (0 + k + 1) (omega arith)) (sym (derivative-at r u n (0 + k))) in
       e3
-      ∙ filled-same (derivativeOver fn s x f l2) (derivativeAt fn s x u f n) 0 0 num n l2 each
-      ∙ ap (filled (derivativeAt fn s x u f n) 0 num n) values
+      ∙ filled-same (derivativeOver r l2) (derivativeAt r u n) 0 0 num n l2 each
+      ∙ ap (filled (derivativeAt r u n) 0 num n) values
       ∙ sym (both-filled room)

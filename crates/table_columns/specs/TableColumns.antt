@@ -6,6 +6,7 @@ use lib.Dec.{eqb, ltb, leb}
 use lib.ListN.{length}
 use lib.Ieee.{Float}
 use Rattle.recurrence.specs.declared.Function.{Function}
+use Rattle.rungs.specs.declared.Sequence.{Sequence}
 use Rattle.recurrence.specs.Recurrence.{ownRungTwo}
 use Rattle.rungs.specs.ColumnValues.{value, derivativeAt}
 use Rattle.value_column.specs.Filled.{filled}
@@ -20,6 +21,6 @@ pub valuesIn : Function → Bool → Float → ℕ → ℕ
 valuesIn fn below f n = cond (ownRungTwo fn below f && eqb n 1) 3 (n + 1)
 
 -- values from slot 0 on and derivatives 0 to n − 1 from slot num on, in a table that has room for both, and else nothing
-pub bothColumns : Function → Bool → Float → Float → Float → ℕ → ℕ → List Float → List Float
-bothColumns fn below x u f n num l =
-    cond (roomIn n num (length l)) (filled (derivativeAt fn below x u f n) 0 num n (filled (value fn below x u f n) 0 0 (valuesIn fn below f n) l)) l
+pub bothColumns : Sequence → Float → ℕ → ℕ → List Float → List Float
+bothColumns r u n num l =
+    cond (roomIn n num (length l)) (filled (derivativeAt r u n) 0 num n (filled (value r u n) 0 0 (valuesIn (r .function) (r .below) (r .f) n) l)) l

@@ -23,7 +23,7 @@ use Rattle.value_column.specs.Slots.{slot}
 use Rattle.table_columns.specs.TableColumns.{valuesIn, bothColumns}
 use Rattle.table_columns.proofs.Room.{room-in}
 use Rattle.table_columns.proofs.Tables.{values-in, both-filled}
-use Rattle.tables.specs.Tables.{refusal, valueOf, derivativeOf, valuesWritten, tableAfter, answer}
+use Rattle.tables.specs.Tables.{refusal, sequenceOf, valueOf, derivativeOf, valuesWritten, tableAfter, answer}
 use Rattle.tables.specs.Tables.Open.{refusal-is, valueOf-is, derivativeOf-is, valuesWritten-is, tableAfter-is, answer-is}
 use Rattle.value_column.proofs.Filled.{length-filled, filled-in, filled-out}
 use Rattle.value_column.proofs.Branches.{slot-filled}
@@ -45,10 +45,10 @@ module _ (v x : Float) (slots : ℕ) where
 -- ---- its rungs, by the parts of its order
 
 module _ (fn : Function) (v x : Float) where
-  pub value-is : valueOf fn v x ≡ value fn (below v) x (shifted v) (fractionOf v) (topRung v)
+  pub value-is : valueOf fn v x ≡ value (sequenceOf fn v x) (shifted v) (topRung v)
   value-is = valueOf-is fn v x
 
-  pub derivative-is : derivativeOf fn v x ≡ derivativeAt fn (below v) x (shifted v) (fractionOf v) (topRung v)
+  pub derivative-is : derivativeOf fn v x ≡ derivativeAt (sequenceOf fn v x) (shifted v) (topRung v)
   derivative-is = derivativeOf-is fn v x
 
 -- ---- the whole call: the table after it, and its answer
@@ -97,13 +97,13 @@ module _ (fn : Function) (v x : Float) (l : List Float) where
     -- what the parts found and left, put together
     pub settled : (s : Bool) (u f : Float) (n m : ℕ) (l1 : List Float) (pair : Option (Float × Float))
         → s ≡ below v → u ≡ shifted v → f ≡ fractionOf v → n ≡ topRung v → m ≡ num v
-        → l1 ≡ bothColumns fn s x u f n m l
+        → l1 ≡ bothColumns (record { function = fn; below = s; x = x; f = f }) u n m l
         → pair ≡ some (slot l1 (n - 1), slot l1 (m + (n - 1)))
         → (pair ≡ answer fn v x (length l)) × (l1 ≡ tableAfter fn v x l)
     settled s u f n m l1 pair es eu ef en em e1 ep =
         let in-room = room-in (topRung v) (num v) (length l) (facts .least) (facts .most) (facts .room) (num-least v) room in
-        let both : l1 ≡ filled (derivativeAt fn (below v) x (shifted v) (fractionOf v) (topRung v)) 0 (num v) (topRung v) (filled (value fn (below v) x (shifted v) (fractionOf v) (topRung v)) 0 0 (valuesIn fn (below v) (fractionOf v) (topRung v)) l) =
-        e1 ∙ rw (es, eu, ef, en, em) (both-filled fn (below v) x (shifted v) (fractionOf v) (topRung v) (num v) l in-room) in
+        let both : l1 ≡ filled (derivativeAt (sequenceOf fn v x) (shifted v) (topRung v)) 0 (num v) (topRung v) (filled (value (sequenceOf fn v x) (shifted v) (topRung v)) 0 0 (valuesIn fn (below v) (fractionOf v) (topRung v)) l) =
+        e1 ∙ rw (es, eu, ef, en, em) (both-filled (sequenceOf fn v x) (shifted v) (topRung v) (num v) l in-room) in
         let after : l1 ≡ tableAfter fn v x l = both ∙ rw (after-accepted, derivative-is fn v x, value-is fn v x, valuesWritten-is fn v) in
         let low : slot l1 (n - 1) ≡ valueOf fn v x (topRung v - 1) = rw (after, en) (value-slot (topRung v - 1) (omega (arith, facts .least))) in
         let high : slot l1 (m + (n - 1)) ≡ derivativeOf fn v x (topRung v - 1) =

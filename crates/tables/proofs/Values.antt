@@ -22,6 +22,7 @@ use Rattle.recurrence.proofs.Values.{V-own-two}
 use Rattle.derivatives.proofs.Values.{D-derivative-0, D-derivative-1, D-derivative-2, D-derivative-4}
 use Rattle.branches.specs.declared.Branch.the-variants.{Forward}
 use Rattle.branches.specs.Branches.{branchOf}
+use Rattle.rungs.specs.declared.Sequence.{Sequence}
 use Rattle.rungs.specs.Rungs.{rung}
 use Rattle.rungs.proofs.Laws.{value-forward, derivative-at}
 use Rattle.branches.proofs.Laws.{D-forward, V-forward}
@@ -33,18 +34,21 @@ use Rattle.tables.specs.Tables.Open.{refusal-is, valueOf-is, derivativeO
 
 -- ---- a forward branch at x = 0 and f = 0: its columns are its rungs
 
+abbrev atZero : Function → Bool → Sequence
+atZero fn s = record { function = fn; below = s; x = f0; f = f0 }
+
 module _ (fn : Function) (s : Bool) (v : Float) (p : Parts) (e : parts v ≡ p) (es : p .1 ≡ s) (ef : p .3 ≡ f0) (forward : (u : Float) → branchOf fn s f0 u ≡ Forward) where
-  values : valueOf fn v f0 ≡ rung fn s f0 f0
+  values : valueOf fn v f0 ≡ rung (atZero fn s)
   values =
       valueOf-is fn v f0
-      ∙ rw (side v p e, es, part v p e, ef) (value-forward fn s f0 (shifted v) f0 (topRung v) (forward (shifted v)))
+      ∙ rw (side v p e, es, part v p e, ef) (value-forward (atZero fn s) (shifted v) (topRung v) (forward (shifted v)))
 
-  derivatives : (k : ℕ) (low high : Float) → rung fn s f0 f0 k ≡ low → rung fn s f0 f0 (k + 1) ≡ high → derivativeOf fn v f0 k ≡ derivative fn s f0 f0 k low high
+  derivatives : (k : ℕ) (low high : Float) → rung (atZero fn s) k ≡ low → rung (atZero fn s) (k + 1) ≡ high → derivativeOf fn v f0 k ≡ derivative fn s f0 f0 k low high
   derivatives k low high el eh =
       ap (λ (g : ℕ → Float). g k) (derivativeOf-is fn v f0)
       ∙ rw (side v p e, es, part v p e, ef)
-      (derivative-at fn s f0 (shifted v) f0 (topRung v) k
-      ∙ rw (value-forward fn s f0 (shifted v) f0 (topRung v) (forward (shifted v)), el, eh))
+      (derivative-at (atZero fn s) (shifted v) (topRung v) k
+      ∙ rw (value-forward (atZero fn s) (shifted v) (topRung v) (forward (shifted v)), el, eh))
 
 -- ---- whether a request with a number for an argument is refused, by the parts of its order
 
@@ -58,7 +62,7 @@ module _ (v x : Float) (slots : ℕ) (p : Parts) (e : parts v ≡ p) (number : i
 
 -- ---- P5: D, v = 0, x = 0: (1, 0); 6 slots do, 5 give 3
 
-d-values : (v : Float) (p : Parts) → parts v ≡ p → p .1 ≡ false → p .3 ≡ f0 → valueOf D v f0 ≡ rung D false f0 f0
+d-values : (v : Float) (p : Parts) → parts v ≡ p → p .1 ≡ false → p .3 ≡ f0 → valueOf D v f0 ≡ rung (atZero D false)
 d-values v p e es ef = values D false v p e es ef (D-forward f0)
 
 pub P5 : (answer D f0 f0 6 ≡ some (f1, f0)) × (refusal f0 f0 6 ≡ 0) × (refusal f0 f0 5 ≡ 3)
@@ -168,7 +172,7 @@ P12 = (ap (λ (q : Parts). q .2) order-below-one, top belowOne _ order-below-one
 abbrev tiny : Float
 tiny = neg (bits 0x3c30_0000_0000_0000)
 
-tiny-values : valueOf «V» tiny f0 ≡ rung «V» true f0 f0
+tiny-values : valueOf «V» tiny f0 ≡ rung (atZero «V» true)
 tiny-values = values «V» true tiny _ order-tiny-below refl refl (V-forward f0)
 
 tiny-written : valuesWritten «V» tiny ≡ 3

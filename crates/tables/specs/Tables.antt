@@ -11,6 +11,7 @@ use Rattle.refusals.specs.Answer.{answerBy}
 use Rattle.order.specs.Order.{below, shifted, fractionOf, topRung, num}
 use Rattle.table_refusals.specs.Refusals.{refusalBy}
 use Rattle.recurrence.specs.declared.Function.{Function}
+use Rattle.rungs.specs.declared.Sequence.{Sequence}
 use Rattle.rungs.specs.ColumnValues.{value, derivativeAt}
 use Rattle.value_column.specs.Filled.{filled}
 use Rattle.table_columns.specs.TableColumns.{valuesIn}
@@ -22,12 +23,16 @@ pub mod Open
 pub refusal : Float → Float → ℕ → ℕ
 refusal v x slots = refusalBy v x (ltb slots (2 * num v))
 
+-- which rungs it has
+abbrev pub sequenceOf : Function → Float → Float → Sequence
+sequenceOf fn v x = record { function = fn; below = below v; x = x; f = fractionOf v }
+
 -- value k and derivative k. They stand at the slots k and num + k.
 pub valueOf : Function → Float → Float → ℕ → Float
-valueOf fn v x = value fn (below v) x (shifted v) (fractionOf v) (topRung v)
+valueOf fn v x = value (sequenceOf fn v x) (shifted v) (topRung v)
 
 pub derivativeOf : Function → Float → Float → ℕ → Float
-derivativeOf fn v x = derivativeAt fn (below v) x (shifted v) (fractionOf v) (topRung v)
+derivativeOf fn v x = derivativeAt (sequenceOf fn v x) (shifted v) (topRung v)
 
 -- how many values are written: 0 to n, and value 2 where V has it at n = 1
 pub valuesWritten : Function → Float → ℕ

@@ -11,6 +11,7 @@ ghost use Rattle.tables.specs.Tables.{refusal, tableAfter, answer};
 use order::Rung;
 use recurrence::Function;
 pub use refusals::Answer;
+use rungs::Sequence;
 
 // Slot n - 1 of both columns.
 fn pair_at(t: &[f64], n: Rung, num: Rung) -> Answer
@@ -37,6 +38,12 @@ pub fn table(function: Function, v: f64, x: f64, t: &mut [f64]) -> Answer
     }
     let o = order::split(v);
     let n = o.n;
-    table_columns::fill_table(t, function, o.below, x, o.u, o.f, n, num);
+    let sequence = Sequence {
+        function: function,
+        below: o.below,
+        x: x,
+        f: o.f,
+    };
+    table_columns::fill_table(t, sequence, o.u, n, num);
     pair_at(t, n, num)
 }

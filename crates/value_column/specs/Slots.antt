@@ -5,7 +5,7 @@ use mathlib.Core.Bool.{Bool}
 use lib.ListN.{getD}
 use lib.Ieee.{Float, nan}
 use Rattle.floats.specs.Operations.{_⊗_}
-use Rattle.recurrence.specs.declared.Function.{Function}
+use Rattle.rungs.specs.declared.Sequence.{Sequence}
 use Rattle.derivatives.specs.Derivatives.{derivative}
 
 -- a slot as it is found
@@ -17,5 +17,5 @@ unfoldable pub scaledBy : Float → List Float → ℕ → Float
 scaledBy s l k = slot l k ⊗ s
 
 -- the derivatives over the values that a list holds
-unfoldable pub derivativeOver : Function → Bool → Float → Float → List Float → ℕ → Float
-derivativeOver fn below x f l k = derivative fn below x f k (slot l k) (slot l (k + 1))
+unfoldable pub derivativeOver : Sequence → List Float → ℕ → Float
+derivativeOver r l k = derivative (r .function) (r .below) (r .x) (r .f) k (slot l k) (slot l (k + 1))

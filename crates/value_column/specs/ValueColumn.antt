@@ -5,7 +5,7 @@ use mathlib.Core.Bool.{Bool, _&&_, cond}
 use lib.Dec.{ltb, leb}
 use lib.ListN.{length}
 use lib.Ieee.{Float}
-use Rattle.recurrence.specs.declared.Function.{Function}
+use Rattle.rungs.specs.declared.Sequence.{Sequence}
 use Rattle.rungs.specs.ColumnValues.{value}
 use Rattle.value_column.specs.Filled.{filled}
 pub mod Open
@@ -15,5 +15,5 @@ unfoldable pub roomUpTo : ℕ → ℕ → Bool
 roomUpTo n slots = leb 1 n && leb n 1000 && ltb n slots
 
 -- values 0 to n in a column that has room for them, and else nothing
-pub allValues : Function → Bool → Float → Float → Float → ℕ → List Float → List Float
-allValues fn below x u f n l = cond (roomUpTo n (length l)) (filled (value fn below x u f n) 0 0 (n + 1) l) l
+pub allValues : Sequence → Float → ℕ → List Float → List Float
+allValues r u n l = cond (roomUpTo n (length l)) (filled (value r u n) 0 0 (n + 1) l) l

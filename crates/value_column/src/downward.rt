@@ -7,20 +7,21 @@ ghost use Rattle.rungs.specs.Rungs.{descent, downwardRung, scaledRung};
 ghost use Rattle.value_column.specs.Filled.{filled};
 ghost use Rattle.value_column.specs.Slots.{scaledBy};
 use order::Rung;
-use recurrence::Function;
 use rungs::Adjacent;
+use rungs::Sequence;
 
 // Stores rungs top - 1 to 0, each from the two above it; low and high are rungs top and top + 1.
-fn descend(t: &mut [f64], function: Function, x: f64, f: f64, top: Rung, low: f64, high: f64)
+fn descend(t: &mut [f64], sequence: Sequence, top: Rung, low: f64, high: f64)
     requires { ⌜ top ≤ length (now t) ⌝ }
-    ensures { λ _. ⌜ now (t .exit) ≡ filled (descent function x f top low high) 0 0 top (now (t .entry)) ⌝ }
+    ensures { λ _. ⌜ now (t .exit) ≡ filled (descent sequence top low high) 0 0 top (now (t .entry)) ⌝ }
 {
+    let function = sequence.function;
     let mut a = low;
     let mut b = high;
     let mut k = top;
     while 0 < k {
         k -= 1;
-        let r = recurrence::step_down(function, x, f, k, a, b);
+        let r = recurrence::step_down(function, sequence.x, sequence.f, k, a, b);
         let at = k as usize;
         t[at] = r;
         b = a;
@@ -29,17 +30,18 @@ fn descend(t: &mut [f64], function: Function, x: f64, f: f64, top: Rung, low: f6
 }
 
 // Rungs `to` and to + 1, from rungs top and top + 1, with nothing stored.
-fn lower(function: Function, x: f64, f: f64, top: Rung, to: Rung, low: f64, high: f64) -> Adjacent
+fn lower(sequence: Sequence, top: Rung, to: Rung, low: f64, high: f64) -> Adjacent
     requires { ⌜ to ≤ top ⌝ }
-    ensures lower { λ r. ⌜ r .low ≡ descent function x f top low high to ⌝ }
-    ensures upper { λ r. ⌜ r .high ≡ descent function x f top low high (to + 1) ⌝ }
+    ensures lower { λ r. ⌜ r .low ≡ descent sequence top low high to ⌝ }
+    ensures upper { λ r. ⌜ r .high ≡ descent sequence top low high (to + 1) ⌝ }
 {
+    let function = sequence.function;
     let mut a = low;
     let mut b = high;
     let mut k = top;
     while to < k {
         k -= 1;
-        let r = recurrence::step_down(function, x, f, k, a, b);
+        let r = recurrence::step_down(function, sequence.x, sequence.f, k, a, b);
         b = a;
         a = r;
     }
@@ -70,28 +72,29 @@ fn store_top(t: &mut [f64], top: Rung, low: f64, high: f64)
 }
 
 // Stores rungs 0 to n, from rungs n and n - 1 down.
-pub(crate) fn downward(t: &mut [f64], function: Function, x: f64, u: f64, f: f64, n: Rung)
+pub(crate) fn downward(t: &mut [f64], sequence: Sequence, u: f64, n: Rung)
     requires some { ⌜ 1 ≤ n ⌝ }
     requires few { ⌜ n ≤ 1000 ⌝ }
     requires room { ⌜ n < length (now t) ⌝ }
-    ensures { λ _. ⌜ now (t .exit) ≡ filled (downwardRung function x u f n) 0 0 (n + 1) (now (t .entry)) ⌝ }
+    ensures { λ _. ⌜ now (t .exit) ≡ filled (downwardRung sequence u n) 0 0 (n + 1) (now (t .entry)) ⌝ }
 {
-    let top = rungs::top_rungs(function, x, u, f, n);
+    let top = rungs::top_rungs(sequence, u, n);
     let low = top.low;
     let high = top.high;
     store_top(t, n - 1, low, high);
-    descend(t, function, x, f, n - 1, low, high);
+    descend(t, sequence, n - 1, low, high);
 }
 
 // Stores rungs 0 to n, worked out from 100 + n down and then scaled.
-pub(crate) fn scaled(t: &mut [f64], function: Function, x: f64, f: f64, n: Rung)
+pub(crate) fn scaled(t: &mut [f64], sequence: Sequence, n: Rung)
     requires few { ⌜ n ≤ 1000 ⌝ }
     requires room { ⌜ n < length (now t) ⌝ }
-    ensures { λ _. ⌜ now (t .exit) ≡ filled (scaledRung function x f n) 0 0 (n + 1) (now (t .entry)) ⌝ }
+    ensures { λ _. ⌜ now (t .exit) ≡ filled (scaledRung sequence n) 0 0 (n + 1) (now (t .entry)) ⌝ }
 {
-    let start = rungs::start_value(function, x, f);
-    let above = lower(function, x, f, n + 101, n + 1, rungs::seed(function), 0.0);
-    descend(t, function, x, f, n + 1, above.low, above.high);
+    let function = sequence.function;
+    let start = rungs::start_value(sequence, sequence.f);
+    let above = lower(sequence, n + 101, n + 1, rungs::seed(function), 0.0);
+    descend(t, sequence, n + 1, above.low, above.high);
     let s = start / t[0];
     scale(t, n + 1, s);
 }

@@ -9,7 +9,7 @@ use branches::Branch;
 use downward::downward;
 use downward::scaled;
 use order::Rung;
-use recurrence::Function;
+use rungs::Sequence;
 use upward::forward;
 
 // Whether a column of this length holds rungs 0 to n.
@@ -26,15 +26,16 @@ fn has_room(n: Rung, slots: usize) -> bool
 }
 
 // Stores values 0 to n. Where the slice is too short, or n is not 1 to 1000, nothing is stored.
-pub fn fill_values(t: &mut [f64], function: Function, below: bool, x: f64, u: f64, f: f64, n: Rung)
-    ensures { λ _. ⌜ now (t .exit) ≡ allValues function below x u f n (now (t .entry)) ⌝ }
+pub fn fill_values(t: &mut [f64], sequence: Sequence, u: f64, n: Rung)
+    ensures { λ _. ⌜ now (t .exit) ≡ allValues sequence u n (now (t .entry)) ⌝ }
 {
     if has_room(n, t.len()) {
-        let branch = branches::branch_of(function, below, x, u);
+        let function = sequence.function;
+        let branch = branches::branch_of(function, sequence.below, sequence.x, u);
         match branch {
-            Branch::Forward => forward(t, function, below, x, f, n),
-            Branch::Downward => downward(t, function, x, u, f, n),
-            Branch::Scaled => scaled(t, function, x, f, n),
+            Branch::Forward => forward(t, sequence, n),
+            Branch::Downward => downward(t, sequence, u, n),
+            Branch::Scaled => scaled(t, sequence, n),
         }
     }
 }

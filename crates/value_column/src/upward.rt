@@ -6,7 +6,7 @@ ghost use lib.ListN.{length, set};
 ghost use Rattle.rungs.specs.Rungs.{rung};
 ghost use Rattle.value_column.specs.Filled.{filled};
 use order::Rung;
-use recurrence::Function;
+use rungs::Sequence;
 
 // Stores slots 0 and 1.
 fn store_start(t: &mut [f64], low: f64, high: f64)
@@ -26,28 +26,20 @@ fn store_two(t: &mut [f64], value: f64)
 }
 
 // Stores rungs 3 to n, each from the two below it; low and high are rungs 1 and 2.
-fn climb(
-    t: &mut [f64],
-    function: Function,
-    below: bool,
-    x: f64,
-    f: f64,
-    n: Rung,
-    low: f64,
-    high: f64,
-)
-    requires first { ⌜ low ≡ rung function below x f 1 ⌝ }
-    requires second { ⌜ high ≡ rung function below x f 2 ⌝ }
+fn climb(t: &mut [f64], sequence: Sequence, n: Rung, low: f64, high: f64)
+    requires first { ⌜ low ≡ rung sequence 1 ⌝ }
+    requires second { ⌜ high ≡ rung sequence 2 ⌝ }
     requires some { ⌜ 2 ≤ n ⌝ }
     requires few { ⌜ n ≤ 1000 ⌝ }
     requires room { ⌜ n < length (now t) ⌝ }
-    ensures { λ _. ⌜ now (t .exit) ≡ filled (rung function below x f) 3 3 (n - 2) (now (t .entry)) ⌝ }
+    ensures { λ _. ⌜ now (t .exit) ≡ filled (rung sequence) 3 3 (n - 2) (now (t .entry)) ⌝ }
 {
+    let function = sequence.function;
     let mut a = low;
     let mut b = high;
     let end = n + 1;
     for k in 3..end {
-        let r = recurrence::step(function, below, x, f, k, a, b);
+        let r = recurrence::step(function, sequence.below, sequence.x, sequence.f, k, a, b);
         let at = k as usize;
         t[at] = r;
         a = b;
@@ -56,20 +48,21 @@ fn climb(
 }
 
 // Stores rungs 0 to n.
-pub(crate) fn forward(t: &mut [f64], function: Function, below: bool, x: f64, f: f64, n: Rung)
+pub(crate) fn forward(t: &mut [f64], sequence: Sequence, n: Rung)
     requires some { ⌜ 1 ≤ n ⌝ }
     requires few { ⌜ n ≤ 1000 ⌝ }
     requires room { ⌜ n < length (now t) ⌝ }
-    ensures { λ _. ⌜ now (t .exit) ≡ filled (rung function below x f) 0 0 (n + 1) (now (t .entry)) ⌝ }
+    ensures { λ _. ⌜ now (t .exit) ≡ filled (rung sequence) 0 0 (n + 1) (now (t .entry)) ⌝ }
 {
-    let start = rungs::start_rungs(function, below, x, f);
+    let start = rungs::start_rungs(sequence);
     let low = start.low;
     let high = start.high;
     store_start(t, low, high);
     if n < 2 {
         return;
     }
-    let two = recurrence::rung_two(function, below, x, f, low, high);
+    let function = sequence.function;
+    let two = recurrence::rung_two(function, sequence.below, sequence.x, sequence.f, low, high);
     store_two(t, two);
-    climb(t, function, below, x, f, n, high, two);
+    climb(t, sequence, n, high, two);
 }

@@ -15,15 +15,15 @@ room c = sym (c .before .has-room .ensures) ∙ c .if1 .taken
 fill-derivatives-over-requires : tie.Need-fill-derivatives-over-requires
 fill-derivatives-over-requires c κs =
     let values = c .before .before .before .before in
-    let r = room-facts _ _ _ (room (values .before .before)) in
-    (rw (values .fill-values .kept .0) (r .2), r .3)
+    let w = room-facts _ _ _ (room (values .before .before)) in
+    (rw (values .fill-values .kept .0) (w .2), w .3)
 
 returns : tie.Need-returns
 returns c =
     let derivatives = c .before .before in
     let values = derivatives .before .before .before .before .before in
     let g = values .before .before .before .before .before .before .args in
-    columns-filled (g .function) (g .below) (g .x) (g .u) (g .f) (g .n) (g .values .now) (values .fill-values .last .0) (g .derivatives .now) (derivatives .fill-derivatives-over .last .1 .0)
+    columns-filled (g .sequence) (g .u) (g .n) (g .values .now) (values .fill-values .last .0) (g .derivatives .now) (derivatives .fill-derivatives-over .last .1 .0)
     (room (values .before .before))
     (values .fill-values .ensures)
     (derivatives .fill-derivatives-over .ensures)
@@ -31,7 +31,7 @@ returns c =
 returns-2 : tie.Need-returns-2
 returns-2 c =
     let g = c .before .before .before .before .args in
-    columns-left (g .function) (g .below) (g .x) (g .u) (g .f) (g .n) (g .values .now) (g .derivatives .now) (sym (c .before .has-room .ensures) ∙ c .if1 .left)
+    columns-left (g .sequence) (g .u) (g .n) (g .values .now) (g .derivatives .now) (sym (c .before .has-room .ensures) ∙ c .if1 .left)
 
 pub fill-columns-spec : {M : Type 1} → statement M
 fill-columns-spec =

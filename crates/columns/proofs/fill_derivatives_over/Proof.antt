@@ -10,11 +10,11 @@ use Rattle.columns.proofs.fill_derivatives_over.Statement.{statement}
 use Rattle.columns.proofs.fill_derivatives_over.Tie as tie
 
 abbrev Inv-loop : tie.InvT-loop
-Inv-loop values derivatives₀ function below x f n k₀ derivatives k =
-    (k ≤ n) × (length derivatives ≡ length derivatives₀) × (derivatives ≡ filled (derivativeOver function below x f values) 0 0 k derivatives₀)
+Inv-loop values derivatives₀ sequence n function k₀ derivatives k =
+    (k ≤ n) × (length derivatives ≡ length derivatives₀) × (derivatives ≡ filled (derivativeOver sequence values) 0 0 k derivatives₀)
 
 abbrev μ-loop : tie.MeasureT-loop
-μ-loop values derivatives₀ function below x f n k₀ derivatives k = n - k
+μ-loop values derivatives₀ sequence n function k₀ derivatives k = n - k
 
 loop-holds : tie.Need-loop-holds Inv-loop μ-loop
 unfolding filled
@@ -27,7 +27,7 @@ loop-again c =
     let i = at-loop .loop .inv in (
       omega arith,
       simp length-set (i .1),
-      derived-over (g .function) (g .below) (g .x) (g .f) (at-loop .loop .k) (c .derivative .result) (g .values .now) (at-loop .loop .derivatives) (g .derivatives .now) (i .2) (c .derivative .ensures),
+      derived-over (g .sequence) (at-loop .loop .k) (c .derivative .result) (g .values .now) (at-loop .loop .derivatives) (g .derivatives .now) (i .2) (c .derivative .ensures),
     )
 
 returns : tie.Need-returns Inv-loop μ-loop

@@ -5,18 +5,18 @@ use mathlib.Core.Bool.{Bool, cond}
 use Prim.Native.Nat.{ℕ, _+_}
 use lib.ListN.{length}
 use lib.Ieee.{Float}
-use Rattle.recurrence.specs.declared.Function.{Function}
+use Rattle.rungs.specs.declared.Sequence.{Sequence}
 use Rattle.rungs.specs.ColumnValues.{value, derivativeAt}
 use Rattle.value_column.specs.Filled.{filled}
 use Rattle.columns.specs.Columns.{roomFor, valueColumn, derivativeColumn}
 
-module _ (fn : Function) (below : Bool) (x u f : Float) (n : ℕ) where
+module _ (r : Sequence) (u : Float) (n : ℕ) where
   pub valueColumn-is : (l : List Float) (derivatives : ℕ)
-      → valueColumn fn below x u f n l derivatives ≡ cond (roomFor n (length l) derivatives) (filled (value fn below x u f n) 0 0 (n + 1) l) l
+      → valueColumn r u n l derivatives ≡ cond (roomFor n (length l) derivatives) (filled (value r u n) 0 0 (n + 1) l) l
   unfolding valueColumn
   valueColumn-is l derivatives = refl
 
   pub derivativeColumn-is : (values : ℕ) (l : List Float)
-      → derivativeColumn fn below x u f n values l ≡ cond (roomFor n values (length l)) (filled (derivativeAt fn below x u f n) 0 0 n l) l
+      → derivativeColumn r u n values l ≡ cond (roomFor n values (length l)) (filled (derivativeAt r u n) 0 0 n l) l
   unfolding derivativeColumn
   derivativeColumn-is values l = refl

@@ -1,5 +1,5 @@
 -- `gozhnerim::demand_three_in_c` meets its contract: the theorem.
-use Rattle.gozhnerim.proofs.Lists.{demand3-in-c}
+use Rattle.gozhnerim.proofs.Demand3InC.{demand3-in-c}
 use Rattle.gozhnerim.proofs.demand_three_in_c.Statement.{statement}
 use Rattle.gozhnerim.proofs.demand_three_in_c.Tie as tie
 

@@ -28,6 +28,13 @@ ok : (c : tie.Else1)
     refusal (asks (g .function) (g .v) (g .x)) (g .values) (g .derivatives) ≡ 0
 ok c = sym (number (c .before)) ∙ c .if1 .left
 
+-- an accepted request's case, by the order's parts
+case-returns : tie.Need-returns-2
+unfolding verdictOf
+case-returns c =
+    let s = c .before .before .before .before .split in
+    verdict-accepted _ _ _ _ _ _ _ _ (ok (c .before)) (s .ensures .0) (s .ensures .1 .1 .0) (s .ensures .1 .1 .1) (c .case-of .ensures)
+
 order-fits : (c : tie.Else1) → T (fits binary64 (c .before .before .before .before .args .v))
 order-fits c = search needs
 
@@ -49,6 +56,4 @@ judge-spec =
     (λ c κs. tt)
     (λ c. verdict-refused _ _ _ _ _ (number (c .before)) (c .if1 .taken))
     case-of-requires
-    (λ c.
-    let s = c .before .before .before .before .split in
-    verdict-accepted _ _ _ _ _ _ _ _ (ok (c .before)) (s .ensures .0) (s .ensures .1 .1 .0) (s .ensures .1 .1 .1) (c .case-of .ensures)))
+    case-returns)

@@ -12,7 +12,7 @@ use Rattle.recurrence.specs.declared.Function.{Function}
 use Rattle.recurrence.specs.declared.Function.the-variants.{D, «V»}
 use Rattle.branches.specs.Branches.{runsForward}
 use Rattle.table_refusals.specs.Refusals.{refusalBy}
-use Rattle.machine.specs.Machine.{Request, Feed, asked, tooShort, refusal, Machine, empty, holds, bitsOf, holding, refuses, repeats, climbs, startsOver, written, sameFunction, sameRungs, mayClimb, caseBy, caseOf, verdict, next, verdicts, after}
+use Rattle.machine.specs.Machine.{Request, Inputs, request, Feed, tooShort, refusal, Machine, empty, holds, bitsOf, holding, refuses, repeats, climbs, startsOver, written, stays, goesOn, startsAt, effect, sameFunction, sameRungs, mayClimb, caseBy, caseOf, verdictOn, verdict, heldThen, next, verdicts, after}
 
 pub tooShort-is : (n values derivatives : ℕ) → tooShort n values derivatives ≡ (ltb values (n + 1) || ltb derivatives n)
 unfolding tooShort
@@ -26,9 +26,9 @@ pub bitsOf-is : (x : Float) → bitsOf x ≡ toBits binary64 x
 unfolding bitsOf
 bitsOf-is x = refl
 
-pub holding-is : (q : Request) → holding q ≡ holds (q .function) (below (q .v)) (bitsOf (q .x)) (bitsOf (fractionOf (q .v))) (topRung (q .v))
+pub holding-is : (q : Request) (n : ℕ) → holding q n ≡ holds (q .function) (below (q .v)) (bitsOf (q .x)) (bitsOf (fractionOf (q .v))) n
 unfolding holding
-holding-is q = refl
+holding-is q n = refl
 
 pub written-refuses : (k : ℕ) → written (refuses k) ≡ none
 unfolding written
@@ -82,13 +82,29 @@ pub caseOf-is : (m : Machine) (q : Request) → caseOf m q ≡ caseBy m (q .func
 unfolding caseOf
 caseOf-is m q = refl
 
-pub verdict-is : (m : Machine) (q : Request) (values derivatives : ℕ) → verdict m (asked q values derivatives) ≡ cond (eqb (refusal q values derivatives) 0) (caseOf m q) (refuses (refusal q values derivatives))
-unfolding verdict
-verdict-is m q values derivatives = refl
+pub verdictOn-request : (m : Machine) (q : Request) (values derivatives : ℕ) → verdictOn m (request q) values derivatives ≡ cond (eqb (refusal q values derivatives) 0) (caseOf m q) (refuses (refusal q values derivatives))
+unfolding verdictOn
+verdictOn-request m q values derivatives = refl
 
-pub next-is : (m : Machine) (q : Request) (values derivatives : ℕ) → next m (asked q values derivatives) ≡ cond (eqb (refusal q values derivatives) 0) (holding q) m
+pub verdict-is : (m : Machine) (d : Feed) → verdict m d ≡ verdictOn m (d .inputs) (d .values) (d .derivatives)
+unfolding verdict
+verdict-is m d = refl
+
+pub heldThen-stays : (m : Machine) (i : Inputs) → heldThen m stays i ≡ m
+unfolding heldThen
+heldThen-stays m i = refl
+
+pub heldThen-goesOn : (m : Machine) (k n : ℕ) (q : Request) → heldThen m (goesOn k n) (request q) ≡ holding q n
+unfolding heldThen
+heldThen-goesOn m k n q = refl
+
+pub heldThen-startsAt : (m : Machine) (n : ℕ) (q : Request) → heldThen m (startsAt n) (request q) ≡ holding q n
+unfolding heldThen
+heldThen-startsAt m n q = refl
+
+pub next-is : (m : Machine) (d : Feed) → next m d ≡ heldThen m (effect (verdict m d)) (d .inputs)
 unfolding next
-next-is m q values derivatives = refl
+next-is m d = refl
 
 pub verdicts-nil : (m : Machine) → verdicts m [] ≡ []
 unfolding verdicts

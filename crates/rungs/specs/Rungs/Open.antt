@@ -1,6 +1,6 @@
 -- What each definition is, case by case, for the proofs of this crate. No other crate cites this module.
 use mathlib.Core.Path.{_≡_, refl}
-use Prim.Native.Nat.{ℕ, zero, suc, _+_, _-_}
+use Prim.Native.Nat.{ℕ, _+_, _-_}
 use mathlib.Core.Bool.{Bool, true, false, cond}
 use lib.Ieee.{Float, neg, le, eq}
 use Rattle.floats.specs.Operations.{_⊕_, _⊖_, _⊗_, _⊘_, whole, f0, f1}
@@ -10,13 +10,14 @@ use Rattle.small_sums.specs.Constants.{quarter}
 use Rattle.start_sums.specs.Constants.{rootTwoOverPi}
 use Rattle.small_sums.specs.SmallSums.{dvsa, vvsa}
 use Rattle.start_sums.specs.StartSums.{dvla, vvla}
-use Rattle.recurrence.specs.declared.Function.{Function}
 use Rattle.recurrence.specs.declared.Function.the-variants.{D, «V»}
 use Rattle.recurrence.specs.Recurrence.{ownRungTwo, nextRung, stepDown}
+use Rattle.recurrence.specs.ThreeTerm.{continued}
 use Rattle.branches.specs.Constants.{f7·5}
+use Rattle.rungs.specs.declared.Sequence.{Sequence}
 use Rattle.rungs.specs.Constants.{f5·8, seedD, seedV}
-use Rattle.rungs.specs.Rungs.{startSum, smallLimit, startValue, gaussian, growth, startsGaussian, nextOrder, startRungs, rungPair, rung}
-use Rattle.rungs.specs.Rungs.{lowered, descent, topRungs, downwardRung, seed, rawRung, scaledRung}
+use Rattle.rungs.specs.Rungs.{startSum, smallLimit, startValue, gaussian, growth, startsGaussian, nextOrder, startRungs, rung}
+use Rattle.rungs.specs.Rungs.{descent, topOrders, topRungs, downwardRung, seed, rawRung, scaledRung}
 
 pub startSum-D-small : (x : Float) (va : Float) → startSum D false x va ≡ dvsa x va
 unfolding startSum
@@ -42,9 +43,10 @@ pub smallLimit-V : smallLimit «V» ≡ f7·5
 unfolding smallLimit
 smallLimit-V = refl
 
-pub startValue-is : (fn : Function) (x : Float) (va : Float) → startValue fn x va ≡ cond (le (absolute x) (smallLimit fn)) (startSum fn false x va) (startSum fn true x va)
+pub startValue-is : (r : Sequence) (va : Float)
+    → startValue r va ≡ cond (le (absolute (r .x)) (smallLimit (r .function))) (startSum (r .function) false (r .x) va) (startSum (r .function) true (r .x) va)
 unfolding startValue
-startValue-is fn x va = refl
+startValue-is r va = refl
 
 pub gaussian-is : (x : Float) → gaussian x ≡ exp (neg quarter ⊗ x ⊗ x)
 unfolding gaussian
@@ -74,48 +76,39 @@ pub nextOrder-below : (f : Float) → nextOrder true f ≡ f ⊖ f1
 unfolding nextOrder
 nextOrder-below f = refl
 
-pub startRungs-is : (fn : Function) (below : Bool) (x f : Float)
-    → startRungs fn below x f
-    ≡ cond (startsGaussian fn below f) (gaussian x, x ⊗ gaussian x)
-    (cond (ownRungTwo fn below f) (startValue fn x f, rootTwoOverPi ⊗ growth x) (startValue fn x f, startValue fn x (nextOrder below f)))
+pub startRungs-is : (r : Sequence)
+    → startRungs r
+    ≡ cond (startsGaussian (r .function) (r .below) (r .f)) (gaussian (r .x), r .x ⊗ gaussian (r .x))
+    (cond (ownRungTwo (r .function) (r .below) (r .f)) (startValue r (r .f), rootTwoOverPi ⊗ growth (r .x)) (startValue r (r .f), startValue r (nextOrder (r .below) (r .f))))
 unfolding startRungs
-startRungs-is fn below x f = refl
+startRungs-is r = refl
 
-pub rungPair-zero : (fn : Function) (below : Bool) (x : Float) (f : Float) → rungPair fn below x f zero ≡ startRungs fn below x f
-unfolding rungPair
-rungPair-zero fn below x f = refl
-
-pub rungPair-suc : (fn : Function) (below : Bool) (x : Float) (f : Float) (k : ℕ) → rungPair fn below x f (suc k) ≡ let r = rungPair fn below x f k in (r .1, nextRung fn below x f (k + 2) (r .0) (r .1))
-unfolding rungPair
-rungPair-suc fn below x f k = refl
-
-pub rung-is : (fn : Function) (below : Bool) (x : Float) (f : Float) (k : ℕ) → rung fn below x f k ≡ rungPair fn below x f k .0
+pub rung-is : (r : Sequence) → rung r ≡ continued (λ i. nextRung (r .function) (r .below) (r .x) (r .f) (i + 2)) (startRungs r .0) (startRungs r .1)
 unfolding rung
-rung-is fn below x f k = refl
+rung-is r = refl
 
-pub lowered-zero : (fn : Function) (x : Float) (f : Float) (top : ℕ) (low : Float) (high : Float) → lowered fn x f top low high zero ≡ (low, high)
-unfolding lowered
-lowered-zero fn x f top low high = refl
-
-pub lowered-suc : (fn : Function) (x : Float) (f : Float) (top : ℕ) (low : Float) (high : Float) (j : ℕ) → lowered fn x f top low high (suc j) ≡ let r = lowered fn x f top low high j in (stepDown fn x f (top - suc j) (r .0) (r .1), r .0)
-unfolding lowered
-lowered-suc fn x f top low high j = refl
-
-pub descent-is : (fn : Function) (x : Float) (f : Float) (top : ℕ) (low : Float) (high : Float) (k : ℕ) → descent fn x f top low high k ≡ lowered fn x f top low high (top + 1 - k) .1
+pub descent-is : (r : Sequence) (top : ℕ) (low high : Float) (k : ℕ)
+    → descent r top low high k ≡ continued (λ j b a. stepDown (r .function) (r .x) (r .f) (top - 1 - j) a b) high low (top + 1 - k)
 unfolding descent
-descent-is fn x f top low high k = refl
+descent-is r top low high k = refl
 
-pub topRungs-D : (x : Float) (u : Float) (f : Float) (n : ℕ) → topRungs D x u f n ≡ (startSum D false x (neg (whole n) ⊕ f ⊕ f1), startSum D false x (neg (whole n) ⊕ f))
+pub topOrders-D : (u f : Float) (n : ℕ) → topOrders D u f n ≡ (neg (whole n) ⊕ f ⊕ f1, neg (whole n) ⊕ f)
+unfolding topOrders
+topOrders-D u f n = refl
+
+pub topOrders-V : (u f : Float) (n : ℕ) → topOrders «V» u f n ≡ (u ⊖ f1, u)
+unfolding topOrders
+topOrders-V u f n = refl
+
+pub topRungs-is : (r : Sequence) (u : Float) (n : ℕ)
+    → topRungs r u n
+    ≡ (startSum (r .function) false (r .x) (topOrders (r .function) u (r .f) n .0), startSum (r .function) false (r .x) (topOrders (r .function) u (r .f) n .1))
 unfolding topRungs
-topRungs-D x u f n = refl
+topRungs-is r u n = refl
 
-pub topRungs-V : (x : Float) (u : Float) (f : Float) (n : ℕ) → topRungs «V» x u f n ≡ (startSum «V» false x (u ⊖ f1), startSum «V» false x u)
-unfolding topRungs
-topRungs-V x u f n = refl
-
-pub downwardRung-is : (fn : Function) (x : Float) (u : Float) (f : Float) (n : ℕ) → downwardRung fn x u f n ≡ descent fn x f (n - 1) (topRungs fn x u f n .0) (topRungs fn x u f n .1)
+pub downwardRung-is : (r : Sequence) (u : Float) (n : ℕ) → downwardRung r u n ≡ descent r (n - 1) (topRungs r u n .0) (topRungs r u n .1)
 unfolding downwardRung
-downwardRung-is fn x u f n = refl
+downwardRung-is r u n = refl
 
 pub seed-D : seed D ≡ seedD
 unfolding seed
@@ -125,10 +118,10 @@ pub seed-V : seed «V» ≡ seedV
 unfolding seed
 seed-V = refl
 
-pub rawRung-is : (fn : Function) (x : Float) (f : Float) (n : ℕ) → rawRung fn x f n ≡ descent fn x f (n + 101) (seed fn) f0
+pub rawRung-is : (r : Sequence) (n : ℕ) → rawRung r n ≡ descent r (n + 101) (seed (r .function)) f0
 unfolding rawRung
-rawRung-is fn x f n = refl
+rawRung-is r n = refl
 
-pub scaledRung-is : (fn : Function) (x : Float) (f : Float) (n : ℕ) (k : ℕ) → scaledRung fn x f n k ≡ rawRung fn x f n k ⊗ (startValue fn x f ⊘ rawRung fn x f n 0)
+pub scaledRung-is : (r : Sequence) (n k : ℕ) → scaledRung r n k ≡ rawRung r n k ⊗ (startValue r (r .f) ⊘ rawRung r n 0)
 unfolding scaledRung
-scaledRung-is fn x f n k = refl
+scaledRung-is r n k = refl

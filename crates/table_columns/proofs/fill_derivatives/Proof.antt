@@ -10,11 +10,11 @@ use Rattle.table_columns.proofs.fill_derivatives.Statement.{statement}
 use Rattle.table_columns.proofs.fill_derivatives.Tie as tie
 
 abbrev Inv-loop : tie.InvT-loop
-Inv-loop t₀ function below x f num n k₀ t k =
-    (k ≤ n) × (length t ≡ length t₀) × (t ≡ filled (derivativeOver function below x f t₀) 0 num k t₀)
+Inv-loop t₀ sequence num n function k₀ t k =
+    (k ≤ n) × (length t ≡ length t₀) × (t ≡ filled (derivativeOver sequence t₀) 0 num k t₀)
 
 abbrev μ-loop : tie.MeasureT-loop
-μ-loop t₀ function below x f num n k₀ t k = n - k
+μ-loop t₀ sequence num n function k₀ t k = n - k
 
 loop-holds : tie.Need-loop-holds Inv-loop μ-loop
 unfolding filled
@@ -27,7 +27,7 @@ loop-again c =
     let i = at-loop .loop .inv in (
       omega arith,
       simp length-set (i .1),
-      derived-slot (g .function) (g .below) (g .x) (g .f) (g .num) (g .n) (at-loop .loop .k) (c .derivative .result) (at-loop .loop .t) (g .t .now) (omega arith) (omega arith) (i .2) (c .derivative .ensures),
+      derived-slot (g .sequence) (g .num) (g .n) (at-loop .loop .k) (c .derivative .result) (at-loop .loop .t) (g .t .now) (omega arith) (omega arith) (i .2) (c .derivative .ensures),
     )
 
 returns : tie.Need-returns Inv-loop μ-loop

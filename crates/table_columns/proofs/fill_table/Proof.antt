@@ -21,8 +21,8 @@ fill-derivatives-requires : tie.Need-fill-derivatives-requires
 fill-derivatives-requires c κs =
     let two = c .before .before .before in
     let values = two .before .before .before .before in
-    let r = room-in-facts _ _ _ (room (values .before .before)) in
-    (r .2, omega (arith, two .store-own-two .kept .0, values .fill-values .kept .0, r))
+    let w = room-in-facts _ _ _ (room (values .before .before)) in
+    (w .2, omega (arith, two .store-own-two .kept .0, values .fill-values .kept .0, w))
 
 returns : tie.Need-returns
 returns c =
@@ -30,7 +30,7 @@ returns c =
     let two = derivatives .before .before .before .before in
     let values = two .before .before .before .before in
     let g = values .before .before .before .before .before .args in
-    both-columns (g .function) (g .below) (g .x) (g .u) (g .f) (g .n) (g .num) (g .t .now) (values .fill-values .last .0) (two .store-own-two .last .0) (derivatives .fill-derivatives .last .0)
+    both-columns (g .sequence) (g .u) (g .n) (g .num) (g .t .now) (values .fill-values .last .0) (two .store-own-two .last .0) (derivatives .fill-derivatives .last .0)
     (room (values .before .before))
     (values .fill-values .ensures)
     (two .store-own-two .ensures)
@@ -39,7 +39,7 @@ returns c =
 returns-2 : tie.Need-returns-2
 returns-2 c =
     let g = c .before .before .before .args in
-    both-left (g .function) (g .below) (g .x) (g .u) (g .f) (g .n) (g .num) (g .t .now) (sym (c .before .has-table-room .ensures) ∙ c .if1 .left)
+    both-left (g .sequence) (g .u) (g .n) (g .num) (g .t .now) (sym (c .before .has-table-room .ensures) ∙ c .if1 .left)
 
 pub fill-table-spec : {M : Type 1} → statement M
 fill-table-spec =

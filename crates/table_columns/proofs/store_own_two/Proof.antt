@@ -10,8 +10,8 @@ use Rattle.table_columns.proofs.store_own_two.Tie as tie
 returns : tie.Need-returns
 unfolding slot
 returns c =
-    let own = c .before .before in
-    stored-two _ _ _ _ (sym (own .before .has-own-rung-two .ensures) ∙ own .if1 .taken) (c .before .if2 .taken)
+    let own = c .before .before .before in
+    stored-two _ _ _ _ (sym (own .before .has-own-rung-two .ensures) ∙ own .if1 .taken) (c .before .before .if2 .taken)
 
 returns-2 : tie.Need-returns-2
 returns-2 c =

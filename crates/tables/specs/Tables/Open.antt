@@ -14,7 +14,7 @@ use Rattle.recurrence.specs.declared.Function.{Function}
 use Rattle.rungs.specs.ColumnValues.{value, derivativeAt}
 use Rattle.value_column.specs.Filled.{filled}
 use Rattle.table_columns.specs.TableColumns.{valuesIn}
-use Rattle.tables.specs.Tables.{refusal, valueOf, derivativeOf, valuesWritten, tableAfter, answer}
+use Rattle.tables.specs.Tables.{refusal, sequenceOf, valueOf, derivativeOf, valuesWritten, tableAfter, answer}
 
 pub refusal-is : (v x : Float) (slots : ℕ) → refusal v x slots ≡ refusalBy v x (ltb slots (2 * num v))
 unfolding refusal
@@ -25,11 +25,11 @@ unfolding valuesWritten
 valuesWritten-is fn v = refl
 
 module _ (fn : Function) (v x : Float) where
-  pub valueOf-is : valueOf fn v x ≡ value fn (below v) x (shifted v) (fractionOf v) (topRung v)
+  pub valueOf-is : valueOf fn v x ≡ value (sequenceOf fn v x) (shifted v) (topRung v)
   unfolding valueOf
   valueOf-is = refl
 
-  pub derivativeOf-is : derivativeOf fn v x ≡ derivativeAt fn (below v) x (shifted v) (fractionOf v) (topRung v)
+  pub derivativeOf-is : derivativeOf fn v x ≡ derivativeAt (sequenceOf fn v x) (shifted v) (topRung v)
   unfolding derivativeOf
   derivativeOf-is = refl
 

@@ -14,13 +14,13 @@ room : (c : tie.Then1) → let g = c .before .before .before .args in roomUpTo (
 room c = sym (c .before .has-room .ensures) ∙ c .if1 .taken
 
 forward-requires : tie.Need-forward-requires
-forward-requires c κs = let r = room-facts _ _ (room (c .before .before .before .before)) in (r .0, (r .1, r .2))
+forward-requires c κs = let w = room-facts _ _ (room (c .before .before .before .before)) in (w .0, (w .1, w .2))
 
 downward-requires : tie.Need-downward-requires
-downward-requires c κs = let r = room-facts _ _ (room (c .before .before .before .before)) in (r .0, (r .1, r .2))
+downward-requires c κs = let w = room-facts _ _ (room (c .before .before .before .before)) in (w .0, (w .1, w .2))
 
 scaled-requires : tie.Need-scaled-requires
-scaled-requires c κs = let r = room-facts _ _ (room (c .before .before .before .before)) in (r .1, r .2)
+scaled-requires c κs = let w = room-facts _ _ (room (c .before .before .before .before)) in (w .1, w .2)
 
 returns : tie.Need-returns
 returns c =
@@ -28,8 +28,8 @@ returns c =
     let told = forward .before .before in
     let chosen = told .before .before in
     let g = chosen .before .before .before .before .args in
-    rw (value-forward (g .function) (g .below) (g .x) (g .u) (g .f) (g .n) (sym (chosen .branch-of .ensures) ∙ told .enum-told .given .1)) (forward .forward .ensures)
-    ∙ values-filled (g .function) (g .below) (g .x) (g .u) (g .f) (g .n) (g .t .now) (room (chosen .before))
+    rw (value-forward (g .sequence) (g .u) (g .n) (sym (chosen .branch-of .ensures) ∙ told .enum-told .given .1)) (forward .forward .ensures)
+    ∙ values-filled (g .sequence) (g .u) (g .n) (g .t .now) (room (chosen .before))
 
 returns-2 : tie.Need-returns-2
 returns-2 c =
@@ -37,8 +37,8 @@ returns-2 c =
     let told = downward .before .before in
     let chosen = told .before .before in
     let g = chosen .before .before .before .before .args in
-    rw (value-downward (g .function) (g .below) (g .x) (g .u) (g .f) (g .n) (sym (chosen .branch-of .ensures) ∙ told .enum-told2 .given .1)) (downward .downward .ensures)
-    ∙ values-filled (g .function) (g .below) (g .x) (g .u) (g .f) (g .n) (g .t .now) (room (chosen .before))
+    rw (value-downward (g .sequence) (g .u) (g .n) (sym (chosen .branch-of .ensures) ∙ told .enum-told2 .given .1)) (downward .downward .ensures)
+    ∙ values-filled (g .sequence) (g .u) (g .n) (g .t .now) (room (chosen .before))
 
 returns-3 : tie.Need-returns-3
 returns-3 c =
@@ -46,13 +46,13 @@ returns-3 c =
     let told = scaled .before .before in
     let chosen = told .before .before in
     let g = chosen .before .before .before .before .args in
-    rw (value-scaled (g .function) (g .below) (g .x) (g .u) (g .f) (g .n) (sym (chosen .branch-of .ensures) ∙ told .enum-told3 .given .1)) (scaled .scaled .ensures)
-    ∙ values-filled (g .function) (g .below) (g .x) (g .u) (g .f) (g .n) (g .t .now) (room (chosen .before))
+    rw (value-scaled (g .sequence) (g .u) (g .n) (sym (chosen .branch-of .ensures) ∙ told .enum-told3 .given .1)) (scaled .scaled .ensures)
+    ∙ values-filled (g .sequence) (g .u) (g .n) (g .t .now) (room (chosen .before))
 
 returns-4 : tie.Need-returns-4
 returns-4 c =
     let g = c .before .before .before .args in
-    values-left (g .function) (g .below) (g .x) (g .u) (g .f) (g .n) (g .t .now) (sym (c .before .has-room .ensures) ∙ c .if1 .left)
+    values-left (g .sequence) (g .u) (g .n) (g .t .now) (sym (c .before .has-room .ensures) ∙ c .if1 .left)
 
 pub fill-values-spec : {M : Type 1} → statement M
 fill-values-spec =

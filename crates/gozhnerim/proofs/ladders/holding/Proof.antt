@@ -1,4 +1,5 @@
--- `gozhnerim::ladders::holding` meets its contract: field by field.
+-- `gozhnerim::ladders::holding` meets its contract: the state of these fields.
+use mathlib.Core.Path.{_∙_}
 use borrow.Author.Needs.{needs}
 use Rattle.gozhnerim.specs.Ladders.{ladderBy}
 use Rattle.gozhnerim.proofs.ladders.holding.Statement.{statement}
@@ -6,4 +7,4 @@ use Rattle.gozhnerim.proofs.ladders.holding.Tie as tie
 
 pub holding-spec : {M : Type 1} → statement M
 unfolding ladderBy
-holding-spec = tie.close (tie.spec (λ c. search needs))
+holding-spec = tie.close (tie.spec (λ c κs. tt) (λ c. c .state-of .ensures))

@@ -2,10 +2,12 @@
 use mathlib.Core.Path.{ap}
 use native.Mathlib.Omega.{arith}
 use Rattle.ladder.specs.Ladder.{Outcome}
+use Rattle.gozhnerim.specs.Ladders.{requestedInC}
 use Rattle.gozhnerim.proofs.ladders.request.Statement.{statement}
 use Rattle.gozhnerim.proofs.ladders.request.Tie as tie
 
 returns : tie.Need-returns
+unfolding requestedInC
 returns c =
     let request = c .before .before .before .before .before in
     let e = rw (request .before .before .before .ladder-in .ensures) at (request .request .ensures) in (

@@ -1,11 +1,15 @@
 -- `ladder::Ladder::empty` meets its contract: the definition's fields, and so n is 0.
-use mathlib.Core.Path.{refl, sym}
+use mathlib.Core.Path.{ap, sym, _∙_}
 use Rattle.machine.proofs.Laws.{no-rung-held}
-use Rattle.ladder.specs.Ladder.{heldIn}
+use Rattle.ladder.specs.declared.Ladder.{Ladder}
+use Rattle.ladder.specs.Ladder.{stateOf, heldIn}
 use Rattle.ladder.specs.Ladder.Open.{emptyState-is}
 use Rattle.ladder.proofs.Ladder.empty.Statement.{statement}
 use Rattle.ladder.proofs.Ladder.empty.Tie as tie
 
+returns : tie.Need-returns
+unfolding heldIn stateOf
+returns c = (c .state-of .ensures ∙ sym emptyState-is, no-rung-held _ (ap (λ (s : Ladder). s .n) (c .state-of .ensures)))
+
 pub empty-spec : {M : Type 1} → statement M
-unfolding heldIn
-empty-spec = tie.close (tie.spec (λ c. (sym emptyState-is, no-rung-held _ refl)))
+empty-spec = tie.close (tie.spec (λ c κs. tt) returns)

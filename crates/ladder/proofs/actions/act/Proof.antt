@@ -40,7 +40,7 @@ start-fits c = search needs
 climbs-in : (c : tie.After-judgement3)
     → let g = c .before .before .before .before .args in
     let n = c .judgement3 .given .0 .1 .0 in
-    (g .s .n < n) × (n ≤ 1000) × (n < length (g .values .now)) × (n ≤ length (g .derivatives .now)) × (g .s .n ≡ c .judgement3 .given .0 .0)
+    (1 ≤ g .s .n) × (g .s .n < n) × (n ≤ 1000) × (n < length (g .values .now)) × (n ≤ length (g .derivatives .now)) × (g .s .n ≡ c .judgement3 .given .0 .0)
 climbs-in c =
     let start = c .before .before .before .before in
     let g = start .args in
@@ -55,15 +55,16 @@ starts-in c =
     let g = start .args in
     start-room (g .s) (asks (g .function) (g .v) (g .x)) (g .values .now) (g .derivatives .now) (verdictOf (g .judgement)) (start .pre) (start-fits c) _ (starts-told c)
 
-answer-requires : tie.Need-answer-requires
-answer-requires c κs =
-    let told = c .before in
-    let start = told .before .before .before .before in
+repeats-held : (c : tie.After-judgement2)
+    → let g = c .before .before .before .before .args in
+    (1 ≤ g .s .n) × (g .s .n ≡ c .judgement2 .given .0 .0)
+repeats-held c =
+    let start = c .before .before .before .before in
     let g = start .args in
-    repeat-held (g .s) (asks (g .function) (g .v) (g .x)) (g .values .now) (g .derivatives .now) (verdictOf (g .judgement)) (start .pre) _ (repeats-told told)
+    repeat-held (g .s) (asks (g .function) (g .v) (g .x)) (g .values .now) (g .derivatives .now) (verdictOf (g .judgement)) (start .pre) _ (repeats-told c)
 
 climb-requires : tie.Need-climb-requires
-climb-requires c κs = let r = climbs-in (c .before .before .before) in (r .0, (r .1, (r .2, r .3)))
+climb-requires c κs = let r = climbs-in (c .before .before .before) in (r .0, (r .1, (r .2, (r .3, r .4))))
 
 answer-requires-2 : tie.Need-answer-requires-2
 answer-requires-2 c κs =
@@ -75,20 +76,20 @@ answer-requires-3 : tie.Need-answer-requires-3
 answer-requires-3 c κs =
     let start-over = c .before .before .before .before in
     let r = starts-in (start-over .before .before .before .before) in
-    rw (start-over .start-over .ensures .0, state-n _) (omega (arith, r))
+    rw (start-over .start-over .ensures .0, state-n _ _) (omega (arith, r))
 
 returns : tie.Need-returns
 returns c = refused-outcome _ _ _ _ _ _ _ (refuses-told (c .before .before)) (c .refuse .ensures)
 
 returns-2 : tie.Need-returns-2
-returns-2 c = repeated-outcome _ _ _ _ _ _ _ (repeats-told (c .before .before)) (c .answer .ensures)
+returns-2 c = let told = c .before .before in repeated-outcome _ _ _ _ _ _ _ (repeats-told told) (repeats-held told .0) (repeats-held told .1) (c .answer .ensures)
 
 returns-3 : tie.Need-returns-3
 returns-3 c =
     let climb = c .before .before .before .before .before in
     let told = climb .before .before .before .before in
     let e = climb .climb .ensures in
-    climbed-outcome _ _ _ _ _ _ _ _ _ _ _ (climbs-told told) (climbs-in told .4) (e .0) (e .1 .0) (e .1 .1) (c .answer2 .ensures)
+    climbed-outcome _ _ _ _ _ _ _ _ _ _ _ (climbs-told told) (climbs-in told .5) (e .0) (e .1 .0) (e .1 .1) (c .answer2 .ensures)
 
 returns-4 : tie.Need-returns-4
 returns-4 c =
@@ -104,7 +105,7 @@ act-spec =
     (λ c. c .match .keys1)
     (λ c κs. tt)
     (λ c. c .match .keys2)
-    answer-requires
+    (λ c κs. repeats-held (c .before) .0)
     (λ c. c .match .keys3)
     climb-requires
     (λ c. omega (arith, climbs-in (c .before .before .before .before .before .before .before .before)))

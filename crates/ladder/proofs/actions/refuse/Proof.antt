@@ -1,10 +1,14 @@
 -- `ladder::actions::refuse` meets its contract: the parts of a refusal's reply.
-use mathlib.Core.Path.{refl}
 use Rattle.refusals.specs.Answer.{refusalOf, pairOf}
-use Rattle.ladder.specs.Ladder.{writtenOf, givenBy, refused}
+use Rattle.machine.specs.Machine.{refusedBy, effect}
+use Rattle.machine.proofs.Laws.{refuses-count}
+use Rattle.ladder.specs.Ladder.{writtenOf, givenBy, pairThen, givenOn}
 use Rattle.ladder.proofs.actions.refuse.Statement.{statement}
 use Rattle.ladder.proofs.actions.refuse.Tie as tie
 
+returns : tie.Need-returns
+unfolding givenBy givenOn refusalOf pairOf writtenOf refusedBy effect pairThen
+returns c = rw (refuses-count _)
+
 pub refuse-spec : {M : Type 1} → statement M
-unfolding givenBy refused refusalOf pairOf writtenOf
-refuse-spec = tie.close (tie.spec (λ c. refl))
+refuse-spec = tie.close (tie.spec returns)

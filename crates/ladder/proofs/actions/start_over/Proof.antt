@@ -1,4 +1,5 @@
 -- `ladder::actions::start_over` meets its contract: the split's parts go to the fill, and the two top values are read back.
+use mathlib.Core.Path.{_∙_}
 use Prim.Native.Nat.{_≤_, _<_}
 use native.Mathlib.Omega.{arith}
 use borrow.Author.Needs.{needs}
@@ -26,7 +27,7 @@ room c =
 returns : tie.Need-returns
 unfolding slot
 returns c =
-    let fill = c .before .before .before .before .before .before in
+    let fill = c .before .before .before .before .before .before .before in
     let split = fill .before .before .before in
     let start = split .before .before .before in
     let g = start .args in
@@ -38,7 +39,8 @@ returns c =
     let d1 = fill .fill-columns .last .1 .0 in
     let e = s .ensures in
     let f = fill .fill-columns .ensures in (
-      started-state q l d (order-fits split) (start .pre) (s .result .below) (s .result .u) (s .result .f) (s .result .n) l1 d1 (e .0) (e .1 .0) (e .1 .1 .0) (e .1 .1 .1) (f .0) (f .1),
+      c .state-of .ensures
+          ∙ started-state q l d (order-fits split) (start .pre) (s .result .below) (s .result .u) (s .result .f) (s .result .n) l1 d1 (e .0) (e .1 .0) (e .1 .1 .0) (e .1 .1 .1) (f .0) (f .1),
       (
         started-values q l d (order-fits split) (start .pre) (s .result .below) (s .result .u) (s .result .f) (s .result .n) l1 d1 (e .0) (e .1 .0) (e .1 .1 .0) (e .1 .1 .1) (f .0) (f .1),
         started-derivatives q l d (order-fits split) (start .pre) (s .result .below) (s .result .u) (s .result .f) (s .result .n) l1 d1 (e .0) (e .1 .0) (e .1 .1 .0) (e .1 .1 .1) (f .0) (f .1),
@@ -57,6 +59,7 @@ start-over-spec =
     (λ c. let fill = c .before .before .before .before .before in rw (fill .fill-columns .kept .0) (omega (arith, room (fill .before .before .before))))
     (λ c. omega arith)
     (λ c. let fill = c .before .before .before .before .before .before in rw (fill .fill-columns .kept .0) (omega (arith, room (fill .before .before .before))))
+    (λ c κs. tt)
     (λ c. omega arith)
     (λ c. omega arith)
     returns)

@@ -1,8 +1,16 @@
 -- `machine::cases::may_climb` meets its contract: a higher n, two rungs held, a forward branch.
-use mathlib.Core.Path.{_∙_}
+use mathlib.Core.Path.{_≡_, _∙_}
+use Rattle.floats.specs.Operations.{_⊕_, whole}
+use Rattle.branches.specs.Branches.{runsForward}
 use Rattle.machine.proofs.Tests.{not-higher, below-two, by-branch}
 use Rattle.machine.proofs.cases.may_climb.Statement.{statement}
 use Rattle.machine.proofs.cases.may_climb.Tie as tie
+
+-- the branch is asked for at the held n + f
+branch : (c : tie.After-runs-forward)
+    → let h = c .before .before .before .before .before .before .before .args .held in
+    c .runs-forward .result ≡ runsForward (h .function) (h .below) (h .x) (whole (h .n) ⊕ h .f)
+branch c = c .runs-forward .ensures
 
 pub may-climb-spec : {M : Type 1} → statement M
 may-climb-spec =
@@ -15,4 +23,4 @@ may-climb-spec =
     (λ c.
     let known = c .before .struct-known4 .given in
     let n = c .before .before .before in
-    c .runs-forward .ensures ∙ by-branch _ _ _ _ _ _ (known .1 .1 .0) (known .1 .1 .1 .0) (n .before .before .if1 .left) (n .if2 .left)))
+    branch c ∙ by-branch _ _ _ _ _ _ (known .1 .1 .0) (known .1 .1 .1 .0) (n .before .before .if1 .left) (n .if2 .left)))

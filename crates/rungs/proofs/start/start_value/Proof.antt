@@ -13,8 +13,8 @@ start-value-spec =
     (λ c κs. tt)
     (λ c.
     let t = c .before .before in
-    c .start-sum .ensures ∙ start-small _ _ _ (rw (t .before .abs .ensures, t .small-limit .ensures) at (c .before .if1 .taken)))
+    c .start-sum .ensures ∙ start-small _ _ (rw (t .before .abs .ensures, t .small-limit .ensures) at (c .before .if1 .taken)))
     (λ c κs. tt)
     (λ c.
     let t = c .before .before in
-    c .start-sum2 .ensures ∙ start-large _ _ _ (rw (t .before .abs .ensures, t .small-limit .ensures) at (c .before .if1 .left))))
+    c .start-sum2 .ensures ∙ start-large _ _ (rw (t .before .abs .ensures, t .small-limit .ensures) at (c .before .if1 .left))))

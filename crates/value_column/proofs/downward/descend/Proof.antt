@@ -12,18 +12,18 @@ use Rattle.value_column.proofs.downward.descend.Statement.{statement}
 use Rattle.value_column.proofs.downward.descend.Tie as tie
 
 abbrev Inv-loop : tie.InvT-loop
-Inv-loop t₀ function x f top low high a₀ b₀ k₀ t a b k =
-    (k ≤ top) × (length t ≡ length t₀) × (a ≡ descent function x f top low high k) × (b ≡ descent function x f top low high (k + 1))
-    × (t ≡ filled (descent function x f top low high) k k (top - k) t₀)
+Inv-loop t₀ sequence top low high function a₀ b₀ k₀ t a b k =
+    (k ≤ top) × (length t ≡ length t₀) × (a ≡ descent sequence top low high k) × (b ≡ descent sequence top low high (k + 1))
+    × (t ≡ filled (descent sequence top low high) k k (top - k) t₀)
 
 abbrev μ-loop : tie.MeasureT-loop
-μ-loop t₀ function x f top low high a₀ b₀ k₀ t a b k = k
+μ-loop t₀ sequence top low high function a₀ b₀ k₀ t a b k = k
 
 loop-holds : tie.Need-loop-holds Inv-loop μ-loop
 unfolding filled
 loop-holds c =
     let g = c .before .args in
-    (omega arith, refl, sym (descent-top (g .function) (g .x) (g .f) (g .top) (g .low) (g .high)), sym (descent-above (g .function) (g .x) (g .f) (g .top) (g .low) (g .high)), rw sub-self)
+    (omega arith, refl, sym (descent-top (g .sequence) (g .top) (g .low) (g .high)), sym (descent-above (g .sequence) (g .top) (g .low) (g .high)), rw sub-self)
 
 loop-again : tie.Need-loop-again Inv-loop μ-loop
 loop-again c =
@@ -31,13 +31,13 @@ loop-again c =
     let g = at-loop .before .before .args in
     let i = at-loop .loop .inv in
     let k = at-loop .loop .k in
-    let r = lowered-turn (g .function) (g .x) (g .f) (g .top) (g .low) (g .high) k (at-loop .loop .a) (at-loop .loop .b) (c .step-down .result) (omega arith) (i .0) (i .2) (i .3) (c .step-down .ensures) in
+    let w = lowered-turn (g .sequence) (g .top) (g .low) (g .high) k (at-loop .loop .a) (at-loop .loop .b) (c .step-down .result) (omega arith) (i .0) (i .2) (i .3) (c .step-down .ensures) in
     let e : k - 1 + 1 ≡ k = omega arith in (
       omega arith,
       simp length-set (i .1),
-      r,
+      w,
       rw e (i .2),
-      lowered-slot (g .function) (g .x) (g .f) (g .top) (g .low) (g .high) k (c .step-down .result) (at-loop .loop .t) (g .t .now) (omega arith) (i .0) (omega arith) (i .4) r,
+      lowered-slot (g .sequence) (g .top) (g .low) (g .high) k (c .step-down .result) (at-loop .loop .t) (g .t .now) (omega arith) (i .0) (omega arith) (i .4) w,
     )
 
 returns : tie.Need-returns Inv-loop μ-loop

@@ -10,11 +10,11 @@ returns c =
     let store = descend .before .before .before .before in
     let top = store .before .before in
     let g = top .before .before .args in
-    let r = top .top-rungs in
-    all-lowered (g .function) (g .x) (g .u) (g .f) (g .n) (g .t .now) (store .store-top .last .0) (descend .descend .last .0) (r .result .low) (r .result .high)
+    let w = top .top-rungs in
+    all-lowered (g .sequence) (g .u) (g .n) (g .t .now) (store .store-top .last .0) (descend .descend .last .0) (w .result .low) (w .result .high)
     (omega arith)
     (omega arith)
-    (r .ensures)
+    (w .ensures)
     (store .store-top .ensures)
     (descend .descend .ensures)
 

@@ -9,16 +9,16 @@ use Rattle.value_column.proofs.downward.lower.Statement.{statement}
 use Rattle.value_column.proofs.downward.lower.Tie as tie
 
 abbrev Inv-loop : tie.InvT-loop
-Inv-loop function x f top to low high a₀ b₀ k₀ a b k =
-    (to ≤ k) × (k ≤ top) × (a ≡ descent function x f top low high k) × (b ≡ descent function x f top low high (k + 1))
+Inv-loop sequence top to low high function a₀ b₀ k₀ a b k =
+    (to ≤ k) × (k ≤ top) × (a ≡ descent sequence top low high k) × (b ≡ descent sequence top low high (k + 1))
 
 abbrev μ-loop : tie.MeasureT-loop
-μ-loop function x f top to low high a₀ b₀ k₀ a b k = k
+μ-loop sequence top to low high function a₀ b₀ k₀ a b k = k
 
 loop-holds : tie.Need-loop-holds Inv-loop μ-loop
 loop-holds c =
     let g = c .args in
-    (omega arith, omega arith, sym (descent-top (g .function) (g .x) (g .f) (g .top) (g .low) (g .high)), sym (descent-above (g .function) (g .x) (g .f) (g .top) (g .low) (g .high)))
+    (omega arith, omega arith, sym (descent-top (g .sequence) (g .top) (g .low) (g .high)), sym (descent-above (g .sequence) (g .top) (g .low) (g .high)))
 
 loop-again : tie.Need-loop-again Inv-loop μ-loop
 loop-again c =
@@ -26,9 +26,9 @@ loop-again c =
     let g = at-loop .before .args in
     let i = at-loop .loop .inv in
     let k = at-loop .loop .k in
-    let r = lowered-turn (g .function) (g .x) (g .f) (g .top) (g .low) (g .high) k (at-loop .loop .a) (at-loop .loop .b) (c .step-down .result) (omega arith) (i .1) (i .2) (i .3) (c .step-down .ensures) in
+    let w = lowered-turn (g .sequence) (g .top) (g .low) (g .high) k (at-loop .loop .a) (at-loop .loop .b) (c .step-down .result) (omega arith) (i .1) (i .2) (i .3) (c .step-down .ensures) in
     let e : k - 1 + 1 ≡ k = omega arith in
-    (omega arith, omega arith, r, rw e (i .2))
+    (omega arith, omega arith, w, rw e (i .2))
 
 returns : tie.Need-returns Inv-loop μ-loop
 returns c =

@@ -14,7 +14,7 @@ returns c =
     let seed = lower .before in
     let start = seed .before in
     let g = start .before .before .args in
-    all-scaled (g .function) (g .x) (g .f) (g .n) (g .t .now) (descend .descend .last .0) (scale .scale .last .0) (lower .lower .result .low) (lower .lower .result .high)
+    all-scaled (g .sequence) (g .n) (g .t .now) (descend .descend .last .0) (scale .scale .last .0) (lower .lower .result .low) (lower .lower .result .high)
     (start .start-value .result)
     (seed .seed .result)
     (omega arith)

@@ -10,12 +10,12 @@ use Rattle.value_column.proofs.upward.climb.Statement.{statement}
 use Rattle.value_column.proofs.upward.climb.Tie as tie
 
 abbrev Inv-loop : tie.InvT-loop
-Inv-loop t₀ function below x f n low high a₀ b₀ end k₀ t a b k =
-    (3 ≤ k) × (k ≤ end) × (length t ≡ length t₀) × (a ≡ rung function below x f (k - 2)) × (b ≡ rung function below x f (k - 1))
-    × (t ≡ filled (rung function below x f) 3 3 (k - 3) t₀)
+Inv-loop t₀ sequence n low high function a₀ b₀ end k₀ t a b k =
+    (3 ≤ k) × (k ≤ end) × (length t ≡ length t₀) × (a ≡ rung sequence (k - 2)) × (b ≡ rung sequence (k - 1))
+    × (t ≡ filled (rung sequence) 3 3 (k - 3) t₀)
 
 abbrev μ-loop : tie.MeasureT-loop
-μ-loop t₀ function below x f n low high a₀ b₀ end k₀ t a b k = end - k
+μ-loop t₀ sequence n low high function a₀ b₀ end k₀ t a b k = end - k
 
 loop-holds : tie.Need-loop-holds Inv-loop μ-loop
 unfolding filled
@@ -27,15 +27,15 @@ loop-again c =
     let g = at-loop .before .before .args in
     let i = at-loop .loop .inv in
     let k = at-loop .loop .k in
-    let r = climbed (g .function) (g .below) (g .x) (g .f) k (at-loop .loop .a) (at-loop .loop .b) (c .step .result) (i .0) (i .3) (i .4) (c .step .ensures) in
+    let w = climbed (g .sequence) k (at-loop .loop .a) (at-loop .loop .b) (c .step .result) (i .0) (i .3) (i .4) (c .step .ensures) in
     let e : k + 1 - 2 ≡ k - 1 = omega arith in
     let h : k + 1 - 1 ≡ k = omega arith in (
       omega arith,
       omega arith,
       simp length-set (i .2),
       rw e (i .4),
-      rw h r,
-      climbed-slot (g .function) (g .below) (g .x) (g .f) k (c .step .result) (at-loop .loop .t) (g .t .now) (i .0) (i .5) r,
+      rw h w,
+      climbed-slot (g .sequence) k (c .step .result) (at-loop .loop .t) (g .t .now) (i .0) (i .5) w,
     )
 
 returns : tie.Need-returns Inv-loop μ-loop

@@ -10,7 +10,7 @@ returns c =
     let start = store .before .before in
     let g = start .before .before .args in
     let s = start .start-rungs in
-    two-rungs (g .function) (g .below) (g .x) (g .f) (g .n) (g .t .now) (store .store-start .last .0) (s .result .low) (s .result .high) (omega arith) (s .ensures)
+    two-rungs (g .sequence) (g .n) (g .t .now) (store .store-start .last .0) (s .result .low) (s .result .high) (omega arith) (s .ensures)
     (store .store-start .ensures)
 
 climb-requires : tie.Need-climb-requires
@@ -19,8 +19,8 @@ climb-requires c κs =
     let start = two .before .before .before .before .before .before in
     let g = start .before .before .args in
     let s = start .start-rungs in (
-      second (g .function) (g .below) (g .x) (g .f) (s .result .low) (s .result .high) (s .ensures),
-      (third (g .function) (g .below) (g .x) (g .f) (s .result .low) (s .result .high) (two .rung-two .result) (s .ensures) (two .rung-two .ensures), (omega arith, (omega arith, omega arith))),
+      second (g .sequence) (s .result .low) (s .result .high) (s .ensures),
+      (third (g .sequence) (s .result .low) (s .result .high) (two .rung-two .result) (s .ensures) (two .rung-two .ensures), (omega arith, (omega arith, omega arith))),
     )
 
 returns-2 : tie.Need-returns-2
@@ -32,7 +32,7 @@ returns-2 c =
     let start = start-store .before .before in
     let g = start .before .before .args in
     let s = start .start-rungs in
-    all-rungs (g .function) (g .below) (g .x) (g .f) (g .n) (g .t .now) (start-store .store-start .last .0) (s .result .low) (s .result .high)
+    all-rungs (g .sequence) (g .n) (g .t .now) (start-store .store-start .last .0) (s .result .low) (s .result .high)
     (two .rung-two .result)
     (store .store-two .last .0)
     (climb .climb .last .0)

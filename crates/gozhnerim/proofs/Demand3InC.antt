@@ -1,0 +1,35 @@
+-- DEMAND 3 IN C: the list of the ladder's turns, in C; and any state. Assumes nothing.
+use mathlib.Core.Path.{_≡_, sym, ap, _∙_}
+use mathlib.Core.List.{List, map}
+use mathlib.Core.Option.{none}
+use lib.Ieee.{Float}
+use Rattle.machine.specs.Machine.{Request, empty, verdicts, after}
+use Rattle.machine.specs.Held.{machineOf}
+use Rattle.ladder.specs.declared.Ladder.{Ladder}
+use Rattle.ladder.specs.Ladder.{heldIn, Outcome}
+use Rattle.lists.specs.Demand3.{Call, fed, Numbers, Long, ListRight}
+use Rattle.lists.proofs.Lists.{demand3}
+use Rattle.gozhnerim.specs.declared.ladders.GozhnerimLadder.{GozhnerimLadder}
+use Rattle.gozhnerim.specs.Ladders.{ladderIn}
+use Rattle.gozhnerim.specs.Lists.{callsInC, lastInC, begunWith, ListRightInC, Demand3InC}
+use Rattle.gozhnerim.proofs.Lists.{allInC, begun-is, begun-empty, all-due, turns-in-c, last-in-c, lent-in-c}
+use Rattle.gozhnerim.proofs.AnyState.{state-right-in-c}
+
+module _ (table : Request → List Float) (long : Long table) (held : GozhnerimLadder) (nothing : begunWith held ≡ empty) (cs : List Call) (numbers : Numbers cs) where
+  right : ListRight table (ladderIn held) cs
+  unfolding heldIn
+  right = demand3 .lists table long (ladderIn held) (begun-empty held nothing) cs numbers
+
+  list-right-in-c : ListRightInC table held cs
+  unfolding heldIn
+  list-right-in-c = record {
+    calls = turns-in-c held cs ∙ ap (allInC held) (right .calls) ∙ all-due table long cs numbers held (ladderIn held) empty;
+    machine =
+        begun-is (lastInC held (callsInC held cs))
+        ∙ ap (λ (s : Ladder). machineOf (heldIn s)) (last-in-c held cs)
+        ∙ right .machine;
+    rungs = rw (lent-in-c held cs) (right .rungs);
+  }
+
+pub demand3-in-c : Demand3InC
+demand3-in-c = record { lists = list-right-in-c; any-state = state-right-in-c }

@@ -33,8 +33,8 @@ fn pair(answer: c::Answer) -> Result<Pair, Refusal> {
 ///
 /// With num = [`slots_needed`](crate::slots_needed)(v) / 2 and n =
 /// [`rungs_needed`](crate::rungs_needed)(v), value k goes to slot k for k from 0 to n, and
-/// derivative k to slot num + k for k from 0 to n − 1. All other slots stay as they are, and no
-/// slot is read. The answer is rung n − 1 of both.
+/// derivative k to slot num + k for k from 0 to n − 1. All other slots stay as they are, and what
+/// the slots held before plays no part. The answer is rung n − 1 of both.
 ///
 /// D is defined in [DLMF 12.1](https://dlmf.nist.gov/12.1); the rungs are tied by the recurrences
 /// and derivative formulas of [DLMF 12.8](https://dlmf.nist.gov/12.8).

@@ -38,7 +38,7 @@ pub struct RawState {
     pub below_zero: u32,
     /// The top rung.
     pub n: u32,
-    /// 0 in an empty state and from every accepted request. It plays no part in a request.
+    /// 0 in an empty state and from every accepted request. Hand it back as received.
     pub reserved: [u32; 3],
     /// The argument.
     pub x: f64,

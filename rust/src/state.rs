@@ -8,8 +8,8 @@ const LARGEST_N: u32 = 1000;
 /// What a ladder holds between two requests, as a value. The tables are lent for each request.
 ///
 /// A request takes the same tables as the one before left them, or longer ones: then slots 0 to n
-/// of the value table and 0 to n − 1 of the derivative table are the rungs. No slot is ever read,
-/// so answers do not depend on what the tables hold.
+/// of the value table and 0 to n − 1 of the derivative table are the rungs. No request reads a
+/// slot that it has not written itself, so answers do not depend on what the tables hold.
 ///
 /// A copy of a state may be kept, and a state may come from elsewhere by [`State::from_raw`].
 /// [`Ladder`](crate::Ladder) is the same with tables of its own.

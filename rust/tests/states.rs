@@ -113,7 +113,7 @@ fn malformed_states_count_as_empty() {
 }
 
 #[test]
-fn below_zero_above_1_counts_as_1_and_reserved_plays_no_part() {
+fn below_zero_above_1_counts_as_1_and_no_request_looks_at_reserved() {
     let good = after(Function::D, -3.25, -1.0);
     let mut raw = good;
     raw.below_zero = 5;

@@ -12,12 +12,12 @@ use Rattle.recurrence.specs.declared.Function.{Function}
 use Rattle.recurrence.specs.Recurrence.{step}
 use Rattle.derivatives.specs.Derivatives.{derivative}
 use Rattle.value_column.specs.Filled.{filled}
-use Rattle.machine.specs.Machine.{Request, request, asked, Machine, Verdict, refuses, repeats, climbs, startsOver, bitsOf, sameRungs, verdict, next}
+use Rattle.machine.specs.Machine.{Request, request, Machine, Verdict, refuses, repeats, climbs, startsOver, bitsOf, sameRungs, verdict, next}
 use Rattle.machine.specs.Held.{countsEmpty, machineOf}
 use Rattle.machine.proofs.Laws.{Means, verdict-means, same-record}
 use Rattle.ladder.specs.declared.Ladder.{Ladder}
 use Rattle.ladder.specs.Ladder.{stateOf, heldIn, Given, requested, Outcome}
-use Rattle.lists.specs.Demand3.{ask, fed, says, Number, Long, tabledValue, tabledDerivative, heldAfter, JustWritten, Climbed, StateRight}
+use Rattle.lists.specs.Demand3.{ask, fed, says, Number, Long, tabledValue, tabledDerivative, heldAfter, JustWritten, StateRight}
 use Rattle.lists.proofs.Held.{table-answer}
 use Rattle.lists.proofs.Turns.{known-request}
 use Rattle.lists.proofs.Lists.{demand3}

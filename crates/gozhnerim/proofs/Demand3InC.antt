@@ -1,13 +1,12 @@
 -- DEMAND 3 IN C: the list of the ladder's turns, in C; and any state. Assumes nothing.
-use mathlib.Core.Path.{_≡_, sym, ap, _∙_}
-use mathlib.Core.List.{List, map}
-use mathlib.Core.Option.{none}
+use mathlib.Core.Path.{_≡_, ap, _∙_}
+use mathlib.Core.List.{List}
 use lib.Ieee.{Float}
-use Rattle.machine.specs.Machine.{Request, empty, verdicts, after}
+use Rattle.machine.specs.Machine.{Request, empty}
 use Rattle.machine.specs.Held.{machineOf}
 use Rattle.ladder.specs.declared.Ladder.{Ladder}
-use Rattle.ladder.specs.Ladder.{heldIn, Outcome}
-use Rattle.lists.specs.Demand3.{Call, fed, Numbers, Long, ListRight}
+use Rattle.ladder.specs.Ladder.{heldIn}
+use Rattle.lists.specs.Demand3.{Call, Numbers, Long, ListRight}
 use Rattle.lists.proofs.Lists.{demand3}
 use Rattle.gozhnerim.specs.declared.ladders.GozhnerimLadder.{GozhnerimLadder}
 use Rattle.gozhnerim.specs.Ladders.{ladderIn}

@@ -4,13 +4,10 @@ use mathlib.Core.Path.{_≡_, refl, sym, ap, _∙_}
 use mathlib.Core.Bool.{Bool, true, false, not, cond}
 use mathlib.Core.Option.{Option, some, none}
 use mathlib.Core.List.{List, [], _∷_, map}
-use Prim.Native.Nat.{ℕ, _-_}
-use native.Mathlib.Omega.{arith}
 use borrow.Author.Tests.{ne-eqb}
 use lib.Dec.{eqb}
 use lib.ListN.{length}
 use lib.Ieee.{Float}
-use Rattle.order.specs.Order.{topRung}
 use Rattle.recurrence.specs.declared.Function.{Function}
 use Rattle.recurrence.specs.declared.Function.the-variants.{D, «V»}
 use Rattle.machine.specs.Machine.{Request, Inputs, request, asked, Machine, empty, Verdict, refuses, repeats, climbs, startsOver, refusedBy, effect, verdict, next, verdicts}
@@ -20,7 +17,7 @@ use Rattle.ladder.specs.declared.Ladder.{Ladder}
 use Rattle.ladder.specs.Ladder.{stateOf, heldIn, emptyState, Outcome, requested}
 use Rattle.ladder.specs.Ladder.Open.{emptyState-is}
 use Rattle.ladder.proofs.Refusals.{refused-state}
-use Rattle.lists.specs.Demand3.{Call, ask, fed, calledBy, turns, left, Number, Numbers, Long, tabledValue, heldAfter, stateDue, pairDue, due, dueAll, lastState, Lent, lent}
+use Rattle.lists.specs.Demand3.{Call, ask, fed, calledBy, turns, left, Number, Numbers, Long, heldAfter, stateDue, pairDue, due, dueAll, lastState, Lent, lent}
 use Rattle.lists.proofs.Held.{table-answer}
 use Rattle.lists.proofs.Turns.{known-request}
 use Rattle.gozhnerim.specs.declared.ladders.GozhnerimLadder.{GozhnerimLadder}

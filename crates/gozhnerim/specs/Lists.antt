@@ -6,7 +6,7 @@ use mathlib.Core.Path.{_≡_}
 use mathlib.Core.List.{List, [], _∷_, map}
 use mathlib.Core.Option.{Option, some, none}
 use Prim.Native.Nat.{ℕ, _+_, _-_, _≤_, _<_}
-use mathlib.Core.Bool.{Bool, not, cond}
+use mathlib.Core.Bool.{not, cond}
 use lib.Dec.{eqb}
 use lib.Ieee.{Float, nan}
 use Rattle.order.specs.Order.{below, fractionOf, topRung}
@@ -15,7 +15,6 @@ use Rattle.recurrence.specs.declared.Function.the-variants.{D, «V»}
 use Rattle.recurrence.specs.Recurrence.{step}
 use Rattle.derivatives.specs.Derivatives.{derivative}
 use Rattle.value_column.specs.Filled.{filled}
-use Rattle.machine.specs.declared.Held.{Held}
 use Rattle.machine.specs.Machine.{Request, Inputs, request, Machine, empty, Verdict, refuses, repeats, climbs, startsOver, effect, verdict, next, verdicts, after}
 use Rattle.machine.specs.Held.{machineOf}
 use Rattle.lists.specs.Demand3.{Call, ask, fed, Number, Numbers, Long, tabledValue, tabledDerivative, valuesDue, derivativesDue, Lent, HandedOn, lastAccepted, lastValues, lastDerivatives, Rungs, JustWritten}

@@ -119,8 +119,8 @@ lengths-tested =
     let q = asks D (decimal 2 0) f0 in
     let by : (values derivatives : ℕ) → refusal q values derivatives ≡ cond (tooShort 3 values derivatives) 3 0 =
     λ values derivatives.
-        refusal-is q values derivatives
-        ∙ rw (top (decimal 2 0) _ order-two, of-numbers (decimal 2 0) f0 (tooShort 3 values derivatives) refl refl, large (decimal 2 0) _ order-two) in
+    refusal-is q values derivatives
+    ∙ rw (top (decimal 2 0) _ order-two, of-numbers (decimal 2 0) f0 (tooShort 3 values derivatives) refl refl, large (decimal 2 0) _ order-two) in
     let three : refusal q 3 3 ≡ 3 = by 3 3 ∙ rw (tooShort-is 3 3 3) in (
       by 4 3 ∙ rw (tooShort-is 3 4 3),
       three,

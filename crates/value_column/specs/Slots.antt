@@ -1,7 +1,6 @@
 -- The slots of a list, and what is worked out from them.
 use mathlib.Core.List.{List}
 use Prim.Native.Nat.{ℕ, _+_}
-use mathlib.Core.Bool.{Bool}
 use lib.ListN.{getD}
 use lib.Ieee.{Float, nan}
 use Rattle.floats.specs.Operations.{_⊗_}

@@ -1,6 +1,4 @@
 -- `gozhnerim::ladders::holding` meets its contract: the state of these fields.
-use mathlib.Core.Path.{_∙_}
-use borrow.Author.Needs.{needs}
 use Rattle.gozhnerim.specs.Ladders.{ladderBy}
 use Rattle.gozhnerim.proofs.ladders.holding.Statement.{statement}
 use Rattle.gozhnerim.proofs.ladders.holding.Tie as tie

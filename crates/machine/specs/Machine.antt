@@ -30,7 +30,7 @@ asks fn v x = record { function = fn; v = v; x = x }
 pub data Inputs : Type 0 where
   request : Request → Inputs
 
--- ... with the lengths of its value table and its derivative table
+-- what a call feeds it: its inputs, and the lengths of its value table and its derivative table
 pub record Feed : Type 0 where
   pub inputs : Inputs
   pub values : ℕ

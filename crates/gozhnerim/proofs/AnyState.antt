@@ -35,7 +35,7 @@ module _ (table : Request → List Float) (long : Long table) (held : GozhnerimL
   s = ladderIn held
 
   right : StateRight table s q l d
-  right = demand3 .any-state table long s q number l d
+  right = demand3 .any-state table long s q l d
 
   same-says : saysInC held (ask q l d) ≡ says s (ask q l d)
   unfolding heldIn
@@ -155,14 +155,14 @@ module _ (table : Request → List Float) (long : Long table) (held : GozhnerimL
   start-in-c n e =
       let p = means (startsOver n) e in
       let known = known-request q (length l) (length d) (number .0) (number .1) (p .0) in
-      (p .1, rw (right .start-over n (sym same-says ∙ e) .1, table-answer q known table long, p .1, same-number (q .function)))
+      (p .1, rw (right .start-over n number (sym same-says ∙ e) .1, table-answer q known table long, p .1, same-number (q .function)))
 
   machine-in-c : begunWith (requestedInC held q l d .reply .ladder) ≡ next (begunWith held) (fed (ask q l d))
   unfolding heldIn
   machine-in-c =
       begun-is (requestedInC held q l d .reply .ladder)
       ∙ ap (λ (z : Ladder). machineOf (heldIn z)) (handed-on held q l d)
-      ∙ right .machine
+      ∙ right .machine number
       ∙ ap (λ (m : Machine). next m (fed (ask q l d))) (sym (begun-is held))
 
   pub state-right-in-c : StateRightInC table held q l d

@@ -50,7 +50,7 @@ module _ (h : Held) where
   pub machine-empty : countsEmpty h ≡ true → machineOf h ≡ empty
   machine-empty e = rw (machineOf-is h, e)
 
-  -- a machine that is empty is begun with no other
+  -- a state whose machine is empty counts as empty
   pub empty-machine : machineOf h ≡ empty → countsEmpty h ≡ true
   empty-machine e = go (countsEmpty h) (sym (machineOf-is h) ∙ e)
     where

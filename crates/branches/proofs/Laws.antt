@@ -1,4 +1,4 @@
--- What the crates above may know of the branches beside the contracts: which run forward, and that a higher order does so too. Assumes nothing.
+-- What the crates above may know of the branches beside the contracts: which run forward, and that a higher order does so too.
 use mathlib.Core.Path.{_≡_, refl, sym, ap, _∙_}
 use Prim.Native.Nat.{ℕ, _≤_}
 use mathlib.Core.Bool.{Bool, true, false, _&&_, _||_, cond, true≢false}
@@ -7,8 +7,8 @@ use Rattle.floats.specs.Operations.{_⊕_, _⊗_, whole, f0, f½}
 use Rattle.signs.specs.Signs.{absolute}
 use Rattle.order.specs.Facts.{Split}
 use Rattle.order.proofs.Laws.{joined-above, stays-above}
-use Rattle.recurrence.specs.declared.Function.{Function}
-use Rattle.recurrence.specs.declared.Function.the-variants.{D, «V»}
+use Rattle.floats.specs.declared.Function.{Function}
+use Rattle.floats.specs.declared.Function.the-variants.{D, «V»}
 use Rattle.recurrence.specs.Recurrence.{ownRungTwo}
 use Rattle.recurrence.proofs.Laws.{ownRungTwo-D, ownRungTwo-V-above}
 use Rattle.branches.specs.declared.Branch.{Branch}

@@ -1,11 +1,10 @@
 -- The branches of a table (01, "Upward, downward, scaled"; the tests of the source's pbdv_impl and pbvv_impl). u is the request's own shifted order.
 use mathlib.Core.Bool.{Bool, true, false, _&&_, _||_, cond}
 use lib.Ieee.{Float, lt, le}
-use Rattle.floats.specs.Operations.{_⊗_, f0, f½}
+use Rattle.floats.specs.Operations.{_⊗_, f0, f½, f2}
 use Rattle.signs.specs.Signs.{absolute}
-use Rattle.logarithm.specs.Constants.{f2}
-use Rattle.recurrence.specs.declared.Function.{Function}
-use Rattle.recurrence.specs.declared.Function.the-variants.{D, «V»}
+use Rattle.floats.specs.declared.Function.{Function}
+use Rattle.floats.specs.declared.Function.the-variants.{D, «V»}
 use Rattle.branches.specs.declared.Branch.{Branch}
 use Rattle.branches.specs.declared.Branch.the-variants.{Forward, Downward, Scaled}
 use Rattle.branches.specs.Constants.{f7·5, f10}

@@ -1,9 +1,9 @@
 // The branch of a table: which of its rungs are worked out first. Each public function answers every input.
 
 ghost use mathlib.Core.Path.{_≡_};
-ghost use Rattle.recurrence.specs.declared.Function.the-variants.{D, «V»};
+ghost use Rattle.floats.specs.declared.Function.the-variants.{D, «V»};
 ghost use Rattle.branches.specs.Branches.{orderIsLow, runsDown, branchOf, runsForward};
-use recurrence::Function;
+use floats::Function;
 use signs::abs;
 
 // How the rungs are worked out: upward from rungs 0 and 1, downward from rungs n and n - 1, or downward from far above n and then scaled.

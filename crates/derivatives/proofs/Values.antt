@@ -1,4 +1,4 @@
--- Derivatives behind 01's examples, of D at x = 0 and f = 0, as laws for the crates above. Assumes nothing.
+-- Derivatives behind 01's examples, of D at x = 0 and f = 0, as laws for the crates above.
 use mathlib.Core.Path.{_≡_, ap}
 use Prim.Native.Nat.{ℕ}
 use mathlib.Core.Bool.{false}
@@ -6,7 +6,7 @@ use mathlib.Core.List.{List}
 use lib.ListN.{getD}
 use lib.Ieee.{Float, nan, neg}
 use Rattle.floats.specs.Operations.{decimal, f0, f1}
-use Rattle.recurrence.specs.declared.Function.the-variants.{D}
+use Rattle.floats.specs.declared.Function.the-variants.{D}
 use Rattle.derivatives.specs.Derivatives.{derivative}
 use Rattle.derivatives.specs.Derivatives.Examples.{computed, values, examples-hold}
 

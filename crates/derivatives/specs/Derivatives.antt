@@ -5,8 +5,8 @@ use mathlib.Core.Bool.{Bool, true, false}
 use lib.Ieee.{Float, neg}
 use Rattle.floats.specs.Operations.{_⊕_, _⊖_, _⊗_, whole, f½, f1}
 use Rattle.signs.specs.Signs.{absolute}
-use Rattle.recurrence.specs.declared.Function.{Function}
-use Rattle.recurrence.specs.declared.Function.the-variants.{D, «V»}
+use Rattle.floats.specs.declared.Function.{Function}
+use Rattle.floats.specs.declared.Function.the-variants.{D, «V»}
 pub mod Open
 pub mod Examples
 

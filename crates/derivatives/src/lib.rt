@@ -2,8 +2,8 @@
 
 ghost use mathlib.Core.Path.{_≡_};
 ghost use Rattle.derivatives.specs.Derivatives.{derivative};
+use floats::Function;
 use order::Rung;
-use recurrence::Function;
 use signs::abs;
 
 // The derivative of rung k, from its value and that of the rung above it.

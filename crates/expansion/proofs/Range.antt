@@ -1,4 +1,4 @@
--- The argument of `lgam_stirling_corr` is 13 or more: bounds of the order go through the two operations. Assumes nothing.
+-- The argument of `lgam_stirling_corr` is 13 or more: bounds of the order go through the two operations.
 use mathlib.Core.Path.{_≡_, refl, sym, _∙_, subst}
 use mathlib.Core.Bool.{Bool, true, false}
 use Prim.Native.Nat.{ℕ, _*_, _≤_}
@@ -17,8 +17,8 @@ use Rattle.floats.proofs.Arithmetic.{sub-is}
 use Rattle.floats.proofs.Comparison.{lt-at, le-at, signedLe-of-test, test-of-signedLe}
 use Rattle.floats.proofs.Bounds.{value-between, neg-between, plus-between, apart-between}
 use Rattle.near.proofs.NearRange.{half-value}
-use Rattle.expansion.specs.Constants.{beyond, f20}
-use Rattle.elementary_expansion.specs.Mantissas.{parameter}
+use Rattle.expansion.specs.Constants.{orderLimit, f20}
+use Rattle.expansion_elementary.specs.Mantissas.{parameter}
 use Rattle.expansion.specs.Expansion.Open.{in-range}
 use Rattle.expansion.specs.Range.{f13, stirlingArgument, Accepted, Near}
 
@@ -45,18 +45,18 @@ twenty-value : (c : ℕ) → HasValue (neg f20) true (20 * c) c
 unfolding ofBits neg
 twenty-value c = (refl, omega arith)
 
-beyond-value : (c : ℕ) → HasValue (neg beyond) true (2147483648 * c) c
+beyond-value : (c : ℕ) → HasValue (neg orderLimit) true (2147483648 * c) c
 unfolding ofBits neg
 beyond-value c = (refl, omega arith)
 
-kept-finite : (s : Bool) (m : ℕ) (e : ℤ) → lt (neg beyond) (fin s m e) ≡ true → SignedLe s (m * up e) true (20 * down e) → Between (fin s m e) true 28 4294967296 2
+kept-finite : (s : Bool) (m : ℕ) (e : ℤ) → lt (neg orderLimit) (fin s m e) ≡ true → SignedLe s (m * up e) true (20 * down e) → Between (fin s m e) true 28 4294967296 2
 kept-finite false m e p (a, b) = absurd (let c = down-pos e in omega arith)
 kept-finite true m e p q =
     let r = ltb-true (m * up e) (2147483648 * down e)
-    (sym (lt-at (neg beyond) (fin true m e) true (2147483648 * down e) true (m * up e) (down e) (down-pos e) (beyond-value (down e)) (own-value true m e)) ∙ p) in
+    (sym (lt-at (neg orderLimit) (fin true m e) true (2147483648 * down e) true (m * up e) (down e) (down-pos e) (beyond-value (down e)) (own-value true m e)) ∙ p) in
     record { size = m * up e; over = down e; positive = down-pos e; value = own-value true m e; least = omega arith; most = omega arith }
 
-kept : (v : Float) → lt (neg beyond) v ≡ true → le v (neg f20) ≡ true → Between v true 28 4294967296 2
+kept : (v : Float) → lt (neg orderLimit) v ≡ true → le v (neg f20) ≡ true → Between v true 28 4294967296 2
 unfolding lt le neg ofBits
 kept nan p q = absurd (subst T (sym p) tt)
 kept (inf true) p q = absurd (subst T (sym p) tt)

@@ -4,12 +4,12 @@ use lib.Ieee.{Float, ofBits}
 use Rattle.floats.specs.Operations.{bits, decimal}
 
 -- 2147483648: orders are above its negative
-abbrev pub beyond : Float
-beyond = bits 0x41e0_0000_0000_0000
+abbrev pub orderLimit : Float
+orderLimit = bits 0x41e0_0000_0000_0000
 
-pub beyond-is : beyond ≡ decimal 2147483648 0
+pub orderLimit-is : orderLimit ≡ decimal 2147483648 0
 unfolding decimal ofBits
-beyond-is = refl
+orderLimit-is = refl
 
 -- 20: orders are at most its negative
 abbrev pub f20 : Float

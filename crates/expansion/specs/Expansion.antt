@@ -7,15 +7,15 @@ use mathlib.Core.Option.{Option}
 use Prim.Native.Nat.{ℕ}
 use lib.Ieee.{Float, isNan, lt, le, neg}
 use Rattle.signs.specs.Signs.{infinite}
-use Rattle.refusals.specs.Answer.{answerBy}
+use Rattle.answer.specs.Answer.{answerBy}
 use Rattle.mul_exp.specs.MulExp.{mulExp}
-use Rattle.elementary_expansion.specs.Mantissas.{mantissas}
-use Rattle.expansion.specs.Constants.{beyond, f20}
+use Rattle.expansion_elementary.specs.Mantissas.{mantissas}
+use Rattle.expansion.specs.Constants.{orderLimit, f20}
 
 -- 1 where an input number is NaN, 4 where not −2147483648 < v ≤ −20, 5 where x is infinite, 0 where it is accepted
 
 abbrev pub inRange : Float → Bool
-inRange v = lt (neg beyond) v && le v (neg f20)
+inRange v = lt (neg orderLimit) v && le v (neg f20)
 
 pub refusal : Float → Float → ℕ
 refusal v x = cond (isNan v || isNan x) 1 (cond (not (inRange v)) 4 (cond (infinite x) 5 0))

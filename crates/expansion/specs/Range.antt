@@ -5,7 +5,7 @@ use mathlib.Core.Bool.{true}
 use lib.Ieee.{Float, le, ofBits}
 use Rattle.floats.specs.Operations.{_⊕_, bits, decimal, f½}
 use Rattle.floats.specs.Facts.{Between}
-use Rattle.elementary_expansion.specs.Mantissas.{parameter}
+use Rattle.expansion_elementary.specs.Mantissas.{parameter}
 use Rattle.expansion.specs.Expansion.{refusal}
 
 -- 13

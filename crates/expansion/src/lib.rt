@@ -1,10 +1,10 @@
 // The request of the expansion, with its refusals. It answers every input.
 
 ghost use mathlib.Core.Path.{_≡_};
-ghost use Rattle.refusals.specs.Answer.{refusalOf, pairOf};
+ghost use Rattle.answer.specs.Answer.{refusalOf, pairOf};
 ghost use Rattle.expansion.specs.Expansion.{refusal, answer};
-use elementary_expansion::pbdv_elementary;
-use refusals::Answer;
+use answer::Answer;
+use expansion_elementary::pbdv_elementary;
 use signs::is_infinite;
 use signs::is_nan;
 

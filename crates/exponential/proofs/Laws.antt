@@ -1,4 +1,4 @@
--- What the crates above may know of exp, exp2 and exp_m1 beside their contracts. Assumes nothing.
+-- What the crates above may know of exp, exp2 and exp_m1 beside their contracts.
 use mathlib.Core.Path.{_≡_, ap}
 use mathlib.Core.List.{List}
 use Prim.Native.Nat.{ℕ}

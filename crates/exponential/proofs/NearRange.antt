@@ -1,5 +1,5 @@
 -- The range of near in exp and exp2: the exponent k is at most 1081 in size, so that binary64 has both powers of two that k is split into, and the cast to
--- i32 never saturates. Assumes nothing.
+-- i32 never saturates.
 use mathlib.Core.Path.{_≡_, refl, subst}
 use mathlib.Core.Bool.{Bool, true, false, _||_}
 use Prim.Native.Nat.{_*_, _^_, _≤_}

@@ -1,4 +1,4 @@
--- The bit pattern of a power of two: for h of size up to 1021, h + 1023 is the exponent's field of 2 ^ h, and the digits below it are 0. Assumes nothing.
+-- The bit pattern of a power of two: for h of size up to 1021, h + 1023 is the exponent's field of 2 ^ h, and the digits below it are 0.
 use mathlib.Core.Path.{_≡_, refl, _∙_}
 use mathlib.Core.Bool.{Bool, true, false, not, _&&_}
 use Prim.Native.Nat.{ℕ, zero, suc, _+_, _-_, _*_, _/_, _%_, _<_, _≤_}

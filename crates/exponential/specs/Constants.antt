@@ -27,14 +27,6 @@ pub ln2Low-is : ln2Low ≡ decimal 19082149292705877 26
 unfolding decimal ofBits
 ln2Low-is = refl
 
--- 0.6931471805599453
-abbrev pub ln2 : Float
-ln2 = bits 0x3fe6_2e42_fefa_39ef
-
-pub ln2-is : ln2 ≡ decimal 6931471805599453 16
-unfolding decimal ofBits
-ln2-is = refl
-
 -- 709.782712893384: above this exp is infinite
 abbrev pub expHighest : Float
 expHighest = bits 0x4086_2e42_fefa_39ef

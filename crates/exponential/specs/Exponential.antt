@@ -7,9 +7,10 @@ use Prim.Native.Nat.{ℕ, _-_}
 use lib.IntN.{ℤ, pos, _-ℤ_}
 use lib.Signed.{quotZ}
 use lib.Ieee.{Float, inf, fin, lt, le, ne, neg}
-use Rattle.floats.specs.Operations.{_⊕_, _⊖_, _⊗_, _⊘_, float, whole, f0, f½, f1}
-use Rattle.near.specs.Near.{near, downTo}
-use Rattle.exponential.specs.Constants.{log2e, ln2High, ln2Low, ln2, expHighest, expLowest, exp2Highest, exp2Lowest}
+use Rattle.floats.specs.Operations.{_⊕_, _⊖_, _⊗_, _⊘_, float, whole, f0, f½, f1, ln2}
+use Rattle.floats.specs.Loops.{downTo}
+use Rattle.near.specs.Near.{near}
+use Rattle.exponential.specs.Constants.{log2e, ln2High, ln2Low, expHighest, expLowest, exp2Highest, exp2Lowest}
 
 -- ---- "exp y"
 

@@ -4,6 +4,7 @@ ghost use mathlib.Core.Path.{_≡_};
 ghost use Prim.Native.Nat.{_≤_};
 ghost use lib.Signed.{mag};
 ghost use Rattle.exponential.specs.Exponential.{powerOfTwo, scaled, expSum, exp, exp2, expM1};
+use floats::LN_2;
 use near::near;
 
 // 2^h, by its bit pattern.
@@ -70,7 +71,7 @@ pub fn exp2(y: f64) -> f64
         return 0.0;
     }
     let k = near(y);
-    scaled(exp_sum((y - k as f64) * 0.6931471805599453, 1), k)
+    scaled(exp_sum((y - k as f64) * LN_2, 1), k)
 }
 
 // e^y - 1, by the series itself up to size 0.5.

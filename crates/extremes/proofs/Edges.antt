@@ -1,4 +1,4 @@
--- What 01 says of minimum and maximum, as theorems about the definitions. Assumes nothing.
+-- What 01 says of minimum and maximum, as theorems about the definitions.
 use mathlib.Core.Path.{_≡_, refl}
 use lib.Ieee.{Float, nan, inf, fin, neg, lt, isNan, ofBits}
 use Rattle.floats.specs.Operations.{f0, f1}

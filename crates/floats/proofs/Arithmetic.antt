@@ -1,4 +1,4 @@
--- A sum, a difference, a product and a quotient, by any fractions that the operands equal. Assumes nothing.
+-- A sum, a difference, a product and a quotient, by any fractions that the operands equal.
 use mathlib.Core.Path.{_≡_, refl, sym, ap, _∙_, subst}
 use Prim.Native.Nat.{ℕ, zero, suc, _+_, _-_, _*_, _≤_, _<_}
 use native.Mathlib.Nat.{lt-irrefl, not-le-of-lt, zero-lt-suc, zero-mul, mul-comm, mul-pos, mul-mul-mul-comm}

@@ -1,4 +1,4 @@
--- Bounds of a size go through the operations of binary64, where the ends are values that it holds: rounding does not cross them. Assumes nothing.
+-- Bounds of a size go through the operations of binary64, where the ends are values that it holds: rounding does not cross them.
 use mathlib.Core.Path.{_≡_, refl, sym, _∙_, ap, subst}
 use Prim.Native.Nat.{ℕ, _+_, _-_, _*_, _/_, _^_, _≤_, _<_, zero, suc, min}
 use mathlib.Core.Bool.{Bool, true, false, not, cond, _&&_, _||_, Bool·beq}

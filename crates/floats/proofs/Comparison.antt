@@ -1,4 +1,4 @@
--- The order of floats: by any fractions that the operands equal, and on all floats transitive and, NaN aside, total. Assumes nothing.
+-- The order of floats: by any fractions that the operands equal, and on all floats transitive and, NaN aside, total.
 use mathlib.Core.Path.{_≡_, refl, sym, ap, _∙_, subst}
 use mathlib.Core.Logic.{inl, inr}
 use Prim.Native.Nat.{ℕ, _+_, _*_, _≤_, _<_}

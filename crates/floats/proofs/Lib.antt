@@ -8,3 +8,4 @@ pub mod Wholes
 pub mod Parts
 pub mod Bounds
 pub mod Loops
+pub mod Countdown

@@ -1,4 +1,4 @@
--- Loops that count up: an invariant says that the turns that are left, from k to end − 1, lead to w. Assumes nothing.
+-- Loops that count up: an invariant says that the turns that are left, from k to end − 1, lead to w.
 use mathlib.Core.Path.{_≡_, refl, sym, ap, _∙_}
 use mathlib.Core.Bool.{Bool, true, false}
 use Prim.Native.Nat.{ℕ, zero, suc, _+_, _-_, _<_, _≤_}

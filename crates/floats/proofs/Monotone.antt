@@ -1,4 +1,4 @@
--- `round` keeps the order of signed fractions, and a sum keeps it in its first operand. Assumes nothing.
+-- `round` keeps the order of signed fractions, and a sum keeps it in its first operand.
 use mathlib.Core.Path.{_≡_, refl, sym, ap, _∙_, subst}
 use mathlib.Core.Logic.{inl, inr}
 use Prim.Native.Nat.{ℕ, suc, _+_, _-_, _*_, _^_, _≤_, _<_}

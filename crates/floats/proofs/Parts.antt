@@ -1,4 +1,4 @@
--- The whole part and the fraction of a value of size 1 or more: both are exact, and their sum is the value. Assumes nothing.
+-- The whole part and the fraction of a value of size 1 or more: both are exact, and their sum is the value.
 use mathlib.Core.Path.{_≡_, refl, sym, ap, _∙_, subst}
 use mathlib.Core.Logic.{inl, inr}
 use Prim.Native.Nat.{ℕ, _+_, _-_, _*_, _/_, _%_, _^_, _≤_, _<_}

@@ -1,4 +1,4 @@
--- What a format holds, in units of its smallest value, and what `round` gives: a value that the format holds stays, and none is crossed. Assumes nothing.
+-- What a format holds, in units of its smallest value, and what `round` gives: a value that the format holds stays, and none is crossed.
 use mathlib.Core.Path.{_≡_, refl, sym, ap, _∙_, subst}
 use mathlib.Core.Logic.{inl, inr}
 use Prim.Native.Nat.{ℕ, zero, suc, _+_, _-_, _*_, _%_, _^_, _≤_, _<_}

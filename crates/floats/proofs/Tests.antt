@@ -1,4 +1,4 @@
--- Tests of naturals, and of fractions over one denominator: they do not turn on the denominator. Assumes nothing.
+-- Tests of naturals, and of fractions over one denominator: they do not turn on the denominator.
 use mathlib.Core.Path.{_≡_, refl, sym, ap, _∙_, subst}
 use mathlib.Core.Logic.{_⊎_, inl, inr}
 use Prim.Native.Nat.{ℕ, _+_, _-_, _*_, _≤_, _<_}

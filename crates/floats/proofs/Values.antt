@@ -1,4 +1,4 @@
--- A finite float is a sign and a fraction: `HasValue x s a c` says that x has the sign s and the size a / c. Assumes nothing.
+-- A finite float is a sign and a fraction: `HasValue x s a c` says that x has the sign s and the size a / c.
 use mathlib.Core.Path.{_≡_, refl, sym, ap, _∙_}
 use Prim.Native.Nat.{ℕ, zero, suc, _+_, _-_, _*_, _/_, _^_, _≤_, _<_, min}
 use native.Mathlib.Nat.{zero-mul, lt-irrefl, mul-comm, mul-assoc, mul-right-comm, eq-of-mul-eq-mul-right}

@@ -1,4 +1,4 @@
--- Whole numbers up to 2 ^ prec in size as floats: sums, differences, products and comparisons are those of the integers. Assumes nothing.
+-- Whole numbers up to 2 ^ prec in size as floats: sums, differences, products and comparisons are those of the integers.
 use mathlib.Core.Path.{_≡_, refl, sym, ap, _∙_}
 use Prim.Native.Nat.{ℕ, zero, suc, _+_, _-_, _*_, _^_, _≤_, _<_}
 use native.Mathlib.Nat.{le-trans, zero-lt-suc, mul-one, zero-mul, add-zero, sub-zero}

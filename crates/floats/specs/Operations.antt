@@ -64,6 +64,38 @@ pub f1-is : f1 ≡ decimal 1 0
 unfolding decimal ofBits
 f1-is = refl
 
+-- 0.25
+abbrev pub f¼ : Float
+f¼ = bits 0x3fd0_0000_0000_0000
+
+pub f¼-is : f¼ ≡ decimal 25 2
+unfolding decimal ofBits
+f¼-is = refl
+
+-- 2
+abbrev pub f2 : Float
+f2 = bits 0x4000_0000_0000_0000
+
+pub f2-is : f2 ≡ decimal 2 0
+unfolding decimal ofBits
+f2-is = refl
+
+-- 0.6931471805599453: ln 2, the source's LN_2
+abbrev pub ln2 : Float
+ln2 = bits 0x3fe6_2e42_fefa_39ef
+
+pub ln2-is : ln2 ≡ decimal 6931471805599453 16
+unfolding decimal ofBits
+ln2-is = refl
+
+-- 3.141592653589793: π, the source's PI
+abbrev pub pi : Float
+pi = bits 0x4009_21fb_5444_2d18
+
+pub pi-is : pi ≡ decimal 3141592653589793 15
+unfolding decimal ofBits
+pi-is = refl
+
 -- 2 ^ 52: from here on every float is whole
 abbrev pub wholeFrom : Float
 wholeFrom = bits 0x4330_0000_0000_0000

@@ -1,4 +1,4 @@
--- What the crates above may know of gamma2 beside its contract. Assumes nothing.
+-- What the crates above may know of gamma2 beside its contract.
 use mathlib.Core.Path.{_≡_, refl, ap, _∙_}
 use mathlib.Core.List.{List}
 use Prim.Native.Nat.{ℕ}
@@ -6,11 +6,10 @@ use lib.IntN.{pos}
 use lib.Dec.{lit≤}
 use lib.ListN.{getD}
 use lib.Ieee.{Float, nan, add, sub, mul, div, neg, lt, eq, ofBits, ofInt, toSigned}
-use Rattle.floats.specs.Operations.{_⊗_, _⊘_, bits, decimal}
+use Rattle.floats.specs.Operations.{_⊗_, _⊘_, bits, decimal, pi}
 use Rattle.signs.specs.Signs.{absolute, infinite}
 use Rattle.truncation.specs.Truncation.{truncated, fraction}
 use Rattle.floats.specs.Loops.{countUp}
-use Rattle.trigonometric.specs.QuarterTurns.{pi}
 use Rattle.trigonometric.proofs.QuarterTurns.{quarter-turns}
 use Rattle.gamma.specs.Constants.{poleValue}
 use Rattle.gamma.specs.Gamma.{productTurn, falling, polynomial, reciprocalSeries, gammaNear, gammaAbove, gamma2}

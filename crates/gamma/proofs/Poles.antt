@@ -1,4 +1,4 @@
--- At the poles of Γ, where gamma2 answers 1e300 (01, "Bottom rungs"). Assumes nothing.
+-- At the poles of Γ, where gamma2 answers 1e300 (01, "Bottom rungs").
 use mathlib.Core.Path.{_≡_, refl, ap, _∙_, subst}
 use mathlib.Core.Bool.{Bool, true, false, _&&_}
 use Prim.Native.Nat.{ℕ, _^_, _≤_}

@@ -1,5 +1,4 @@
--- The constants of gamma2, each by its bits; `NAME-is` says which decimal of the source it is. The source's PI stands in trigonometric's
--- specs/QuarterTurns.antt.
+-- The constants of gamma2, each by its bits; `NAME-is` says which decimal of the source it is.
 use mathlib.Core.Path.{_≡_, refl}
 use Prim.Native.Nat.{_^_}
 use mathlib.Core.List.{List, [], _∷_}

@@ -8,12 +8,11 @@ use mathlib.Core.Bool.{false, cond}
 use mathlib.Core.List.{List, [], _∷_}
 use lib.IntN.{ℤ, pos, negsuc}
 use lib.Ieee.{Float, lt, eq, neg, toSigned}
-use Rattle.floats.specs.Operations.{_⊕_, _⊖_, _⊗_, _⊘_, whole, f0, f1}
+use Rattle.floats.specs.Operations.{_⊕_, _⊖_, _⊗_, _⊘_, whole, f0, f1, pi}
 use Rattle.signs.specs.Signs.{absolute, infinite}
 use Rattle.truncation.specs.Truncation.{truncated, fraction}
 use Rattle.floats.specs.Loops.{Turn, countUp}
 use Rattle.trigonometric.specs.Trigonometric.{sin}
-use Rattle.trigonometric.specs.QuarterTurns.{pi}
 use Rattle.gamma.specs.Constants.{poleValue, gammaCoefficients}
 
 -- the last k of a loop that counts up to m: for m below 0 it takes no turn

@@ -3,12 +3,10 @@
 ghost use mathlib.Core.Path.{_≡_};
 ghost use lib.Ieee.{toSigned};
 ghost use Rattle.gamma.specs.Gamma.{lastOf, factorial, falling, reciprocalSeries, gammaNear, gammaAbove, gamma2};
+use floats::PI;
 use signs::abs;
 use signs::is_infinite;
 use trigonometric::sin;
-
-// The source's PI.
-pub const PI: f64 = 3.141592653589793;
 
 // The source's table G: the coefficients of 1/Γ, under DLMF's names (5.7.1).
 const C1: f64 = 1.0000000000000000e+00;

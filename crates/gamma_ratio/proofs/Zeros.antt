@@ -1,4 +1,4 @@
--- log1pmx of both zeros is 0: every term is a zero, so that no turn stops and the sum stays 0. Assumes nothing.
+-- log1pmx of both zeros is 0: every term is a zero, so that no turn stops and the sum stays 0.
 use mathlib.Core.Path.{_≡_, refl, ap, _∙_}
 use mathlib.Core.Bool.{Bool, true, false}
 use Prim.Native.Nat.{ℕ, zero, suc, _+_, _*_, _≤_, _<_}

@@ -1,4 +1,4 @@
--- Any bit pattern of a state in C: what demand 3 says of the ladder that it is, in the fields of the reply. Assumes nothing.
+-- Any bit pattern of a state in C: what demand 3 says of the ladder that it is, in the fields of the reply.
 use mathlib.Core.Path.{_≡_, refl, sym, ap, _∙_, subst}
 use mathlib.Core.Bool.{Bool, true, false, true≢false}
 use mathlib.Core.Option.{Option, some, none}
@@ -8,19 +8,19 @@ use borrow.Author.Tests.{ne-eqb}
 use lib.ListN.{length}
 use lib.Ieee.{Float, nan}
 use Rattle.order.specs.Order.{below, fractionOf, topRung}
-use Rattle.recurrence.specs.declared.Function.{Function}
+use Rattle.floats.specs.declared.Function.{Function}
 use Rattle.recurrence.specs.Recurrence.{step}
 use Rattle.derivatives.specs.Derivatives.{derivative}
-use Rattle.value_column.specs.Filled.{filled}
-use Rattle.machine.specs.Machine.{Request, request, Machine, Verdict, refuses, repeats, climbs, startsOver, bitsOf, sameRungs, verdict, next}
-use Rattle.machine.specs.Held.{countsEmpty, machineOf}
-use Rattle.machine.proofs.Laws.{Means, verdict-means, same-record}
+use Rattle.slots.specs.Slots.{filled}
+use Rattle.ladder_machine.specs.Machine.{Request, request, Machine, Verdict, refuses, repeats, climbs, startsOver, bitsOf, sameRungs, verdict, next}
+use Rattle.ladder_machine.specs.Held.{countsEmpty, machineOf}
+use Rattle.ladder_machine.proofs.Laws.{Means, verdict-means, same-record}
 use Rattle.ladder.specs.declared.Ladder.{Ladder}
 use Rattle.ladder.specs.Ladder.{stateOf, heldIn, Given, requested, Outcome}
-use Rattle.lists.specs.Demand3.{ask, fed, says, Number, Long, tabledValue, tabledDerivative, heldAfter, JustWritten, StateRight}
-use Rattle.lists.proofs.Held.{table-answer}
-use Rattle.lists.proofs.Turns.{known-request}
-use Rattle.lists.proofs.Lists.{demand3}
+use Rattle.ladder_lists.specs.Demand3.{ask, fed, says, Number, Long, tabledValue, tabledDerivative, heldAfter, JustWritten, StateRight}
+use Rattle.ladder_lists.proofs.Held.{table-answer}
+use Rattle.ladder_lists.proofs.Turns.{known-request}
+use Rattle.ladder_lists.proofs.Lists.{demand3}
 use Rattle.gozhnerim.specs.declared.ladders.GozhnerimLadder.{GozhnerimLadder}
 use Rattle.gozhnerim.specs.Answers.{pairOrNan}
 use Rattle.gozhnerim.specs.Ladders.{functionOf, ladderBy, ladderIn, ladderOut, handedBack, countOf, replyOf, requestedInC}

@@ -1,13 +1,13 @@
--- DEMAND 3 IN C: the list of the ladder's turns, in C; and any state. Assumes nothing.
+-- DEMAND 3 IN C: the list of the ladder's turns, in C; and any state.
 use mathlib.Core.Path.{_≡_, ap, _∙_}
 use mathlib.Core.List.{List}
 use lib.Ieee.{Float}
-use Rattle.machine.specs.Machine.{Request, empty}
-use Rattle.machine.specs.Held.{machineOf}
+use Rattle.ladder_machine.specs.Machine.{Request, empty}
+use Rattle.ladder_machine.specs.Held.{machineOf}
 use Rattle.ladder.specs.declared.Ladder.{Ladder}
 use Rattle.ladder.specs.Ladder.{heldIn}
-use Rattle.lists.specs.Demand3.{Call, Numbers, Long, ListRight}
-use Rattle.lists.proofs.Lists.{demand3}
+use Rattle.ladder_lists.specs.Demand3.{Call, Numbers, Long, ListRight}
+use Rattle.ladder_lists.proofs.Lists.{demand3}
 use Rattle.gozhnerim.specs.declared.ladders.GozhnerimLadder.{GozhnerimLadder}
 use Rattle.gozhnerim.specs.Ladders.{ladderIn}
 use Rattle.gozhnerim.specs.Lists.{callsInC, lastInC, begunWith, ListRightInC, Demand3InC}

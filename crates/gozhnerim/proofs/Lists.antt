@@ -1,5 +1,5 @@
 -- Lists of calls in C. The state that a call hands back is, as a ladder, the state that the ladder's request hands back; so a list of calls in C is the list of
--- the ladder's turns, of which demand 3 speaks; and what is due to a call of the ladder is, in C, what is due there. Assumes nothing.
+-- the ladder's turns, of which demand 3 speaks; and what is due to a call of the ladder is, in C, what is due there.
 use mathlib.Core.Path.{_≡_, refl, sym, ap, _∙_}
 use mathlib.Core.Bool.{Bool, true, false, not, cond}
 use mathlib.Core.Option.{Option, some, none}
@@ -8,18 +8,18 @@ use borrow.Author.Tests.{ne-eqb}
 use lib.Dec.{eqb}
 use lib.ListN.{length}
 use lib.Ieee.{Float}
-use Rattle.recurrence.specs.declared.Function.{Function}
-use Rattle.recurrence.specs.declared.Function.the-variants.{D, «V»}
-use Rattle.machine.specs.Machine.{Request, Inputs, request, asked, Machine, empty, Verdict, refuses, repeats, climbs, startsOver, refusedBy, effect, verdict, next, verdicts}
-use Rattle.machine.specs.Held.{countsEmpty, machineOf}
-use Rattle.machine.proofs.Laws.{machine-empty, no-rung-held, empty-machine, Accepts, accepts, refuses-count, repeats-count, climbs-count, starts-count, no-verdicts, more-verdicts}
+use Rattle.floats.specs.declared.Function.{Function}
+use Rattle.floats.specs.declared.Function.the-variants.{D, «V»}
+use Rattle.ladder_machine.specs.Machine.{Request, Inputs, request, asked, Machine, empty, Verdict, refuses, repeats, climbs, startsOver, refusedBy, effect, verdict, next, verdicts}
+use Rattle.ladder_machine.specs.Held.{countsEmpty, machineOf}
+use Rattle.ladder_machine.proofs.Laws.{machine-empty, no-rung-held, empty-machine, Accepts, accepts, refuses-count, repeats-count, climbs-count, starts-count, no-verdicts, more-verdicts}
 use Rattle.ladder.specs.declared.Ladder.{Ladder}
 use Rattle.ladder.specs.Ladder.{stateOf, heldIn, emptyState, Outcome, requested}
 use Rattle.ladder.specs.Ladder.Open.{emptyState-is}
 use Rattle.ladder.proofs.Refusals.{refused-state}
-use Rattle.lists.specs.Demand3.{Call, ask, fed, calledBy, turns, left, Number, Numbers, Long, heldAfter, stateDue, pairDue, due, dueAll, lastState, Lent, lent}
-use Rattle.lists.proofs.Held.{table-answer}
-use Rattle.lists.proofs.Turns.{known-request}
+use Rattle.ladder_lists.specs.Demand3.{Call, ask, fed, calledBy, turns, left, Number, Numbers, Long, heldAfter, stateDue, pairDue, due, dueAll, lastState, Lent, lent}
+use Rattle.ladder_lists.proofs.Held.{table-answer}
+use Rattle.ladder_lists.proofs.Turns.{known-request}
 use Rattle.gozhnerim.specs.declared.ladders.GozhnerimLadder.{GozhnerimLadder}
 use Rattle.gozhnerim.specs.Answers.{pairOrNan}
 use Rattle.gozhnerim.specs.Ladders.{functionOf, ladderBy, ladderIn, numberOf, ladderOut, handedBack, countOf, replyOf, OutcomeInC, requestedInC}

@@ -5,10 +5,10 @@ use Prim.Native.Nat.{ℕ}
 use mathlib.Core.Bool.{not, cond}
 use lib.Dec.{eqb}
 use lib.Ieee.{Float}
-use Rattle.recurrence.specs.declared.Function.{Function}
-use Rattle.recurrence.specs.declared.Function.the-variants.{D, «V»}
+use Rattle.floats.specs.declared.Function.{Function}
+use Rattle.floats.specs.declared.Function.the-variants.{D, «V»}
 use Rattle.ladder.specs.declared.Ladder.{Ladder}
-use Rattle.machine.specs.Machine.{Request}
+use Rattle.ladder_machine.specs.Machine.{Request}
 use Rattle.ladder.specs.Ladder.{stateOf, emptyState, Given, requested}
 use Rattle.gozhnerim.specs.declared.ladders.GozhnerimLadder.{GozhnerimLadder}
 use Rattle.gozhnerim.specs.declared.ladders.GozhnerimReply.{GozhnerimReply}

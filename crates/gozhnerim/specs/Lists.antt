@@ -1,7 +1,7 @@
 -- DEMAND 3 over the C interface, `Demand3InC`, at the end: what lists of calls of gozhnerim_ladder_d and gozhnerim_ladder_v give and leave, field by field of
 -- the structs, and what a call on any state does, whatever its bits are (all NaNs being one). Of the interface it cites `requestedInC` alone, which the
 -- contracts equate with reply and tables. The numbers and fields of C are defined here; all else is in the words of `Demand3`
--- (crates/lists/specs/Demand3.antt).
+-- (crates/ladder_lists/specs/Demand3.antt).
 use mathlib.Core.Path.{_≡_}
 use mathlib.Core.List.{List, [], _∷_, map}
 use mathlib.Core.Option.{Option, some, none}
@@ -10,14 +10,14 @@ use mathlib.Core.Bool.{not, cond}
 use lib.Dec.{eqb}
 use lib.Ieee.{Float, nan}
 use Rattle.order.specs.Order.{below, fractionOf, topRung}
-use Rattle.recurrence.specs.declared.Function.{Function}
-use Rattle.recurrence.specs.declared.Function.the-variants.{D, «V»}
+use Rattle.floats.specs.declared.Function.{Function}
+use Rattle.floats.specs.declared.Function.the-variants.{D, «V»}
 use Rattle.recurrence.specs.Recurrence.{step}
 use Rattle.derivatives.specs.Derivatives.{derivative}
-use Rattle.value_column.specs.Filled.{filled}
-use Rattle.machine.specs.Machine.{Request, Inputs, request, Machine, empty, Verdict, refuses, repeats, climbs, startsOver, effect, verdict, next, verdicts, after}
-use Rattle.machine.specs.Held.{machineOf}
-use Rattle.lists.specs.Demand3.{Call, ask, fed, Number, Numbers, Long, tabledValue, tabledDerivative, valuesDue, derivativesDue, Lent, HandedOn, lastAccepted, lastValues, lastDerivatives, Rungs, JustWritten}
+use Rattle.slots.specs.Slots.{filled}
+use Rattle.ladder_machine.specs.Machine.{Request, Inputs, request, Machine, empty, Verdict, refuses, repeats, climbs, startsOver, effect, verdict, next, verdicts, after}
+use Rattle.ladder_machine.specs.Held.{machineOf}
+use Rattle.ladder_lists.specs.Demand3.{Call, ask, fed, Number, Numbers, Long, tabledValue, tabledDerivative, valuesDue, derivativesDue, Lent, HandedOn, lastAccepted, lastValues, lastDerivatives, Rungs, JustWritten}
 use Rattle.gozhnerim.specs.declared.ladders.GozhnerimLadder.{GozhnerimLadder}
 use Rattle.gozhnerim.specs.declared.ladders.GozhnerimReply.{GozhnerimReply}
 use Rattle.gozhnerim.specs.Ladders.{OutcomeInC, requestedInC}

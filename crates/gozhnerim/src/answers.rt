@@ -2,14 +2,14 @@
 
 ghost use mathlib.Core.Path.{_≡_};
 ghost use lib.ListN.{length};
-ghost use Rattle.recurrence.specs.declared.Function.the-variants.{D, «V»};
-ghost use Rattle.refusals.specs.Answer.{refusalOf, pairOf};
+ghost use Rattle.floats.specs.declared.Function.the-variants.{D, «V»};
+ghost use Rattle.answer.specs.Answer.{refusalOf, pairOf};
 ghost use Rattle.tables.specs.Tables.{refusal, tableAfter, answer};
 ghost use Rattle.expansion.specs.Expansion as expanded;
 ghost use Rattle.maclaurin.specs.Maclaurin as maclaurin;
 ghost use Rattle.gozhnerim.specs.Answers.{answerOf};
-use recurrence::Function;
-use refusals::Answer;
+use answer::Answer;
+use floats::Function;
 
 // Refusal 0: answered. On a refusal the two numbers are NaN.
 #[repr(C)]

@@ -3,8 +3,8 @@
 ghost use mathlib.Core.Path.{_≡_};
 ghost use lib.ListN.{length};
 ghost use Rattle.gozhnerim.specs.Columns.{columnIn};
-use reader::Column;
-use reader::read_column;
+use ladder_reader::Column;
+use ladder_reader::read_column;
 
 // Which is 1 for the values and 2 for the derivatives; any other number names neither, and its part is empty.
 #[no_mangle]

@@ -2,16 +2,16 @@
 
 ghost use mathlib.Core.Path.{_≡_};
 ghost use mathlib.Core.Option.{some};
-ghost use Rattle.recurrence.specs.declared.Function.the-variants.{D, «V»};
-ghost use Rattle.machine.specs.Machine.{asks};
+ghost use Rattle.floats.specs.declared.Function.the-variants.{D, «V»};
+ghost use Rattle.ladder_machine.specs.Machine.{asks};
 ghost use Rattle.ladder.specs.Ladder.{writtenOf, givenBy};
 ghost use Rattle.gozhnerim.specs.Ladders.{numberOf, ladderBy, ladderIn, ladderOut, handedBack, countOf, replyOf, requestedInC};
 use crate::answers::flat;
+use floats::Function;
 use ladder::Ladder;
 use ladder::Reply;
 use ladder::Written;
 use ladder::state_of;
-use recurrence::Function;
 use rungs::Sequence;
 
 // A state. Function 1 is D, 2 is V, and any other number makes it empty; below_zero is 0 from order 0 on; value_below is rung n - 1, value_top rung n.

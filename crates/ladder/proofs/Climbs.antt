@@ -1,4 +1,4 @@
--- What a climb carries on, and a turn of it: the next rung, and the two slots that it fills. Assumes nothing.
+-- What a climb carries on, and a turn of it: the next rung, and the two slots that it fills.
 use mathlib.Core.Path.{_≡_, sym, ap, _∙_}
 use mathlib.Core.List.{List}
 use Prim.Native.Nat.{ℕ, suc, _+_, _-_, _≤_, _<_}
@@ -9,8 +9,8 @@ use Rattle.recurrence.specs.Recurrence.{step}
 use Rattle.recurrence.specs.ThreeTerm.{continued}
 use Rattle.recurrence.proofs.ThreeTerm.{continued-next}
 use Rattle.derivatives.specs.Derivatives.{derivative}
-use Rattle.value_column.specs.Filled.{filled}
-use Rattle.value_column.proofs.Filled.{filled-more}
+use Rattle.slots.specs.Slots.{filled}
+use Rattle.slots.proofs.Filled.{filled-more}
 use Rattle.ladder.specs.declared.Ladder.{Ladder}
 use Rattle.ladder.specs.Ladder.{stateOf, sequenceIn, carriedValue, carriedDerivative, climbedTo}
 use Rattle.ladder.specs.Ladder.Open.{carriedValue-is, carriedDerivative-is, climbedTo-is}

@@ -1,4 +1,4 @@
--- What comes of each judgement: what it says of the state and the tables, and what the action gives and leaves. Assumes nothing.
+-- What comes of each judgement: what it says of the state and the tables, and what the action gives and leaves.
 use mathlib.Core.Path.{_≡_, refl, sym, ap, _∙_, subst}
 use mathlib.Core.List.{List}
 use Prim.Native.Nat.{ℕ, _+_, _-_, _≤_, _<_}
@@ -8,12 +8,12 @@ use lib.Dec.{T}
 use lib.ListN.{length}
 use lib.Ieee.{Float, binary64, fits}
 use Rattle.order.specs.Order.{topRung}
-use Rattle.value_column.specs.Filled.{filled}
-use Rattle.value_column.proofs.Filled.{length-filled}
+use Rattle.slots.specs.Slots.{filled}
+use Rattle.slots.proofs.Filled.{length-filled}
 use Rattle.tables.specs.Tables.{valueOf, derivativeOf}
-use Rattle.machine.specs.Machine.{Request, asked, refusal, Verdict, refuses, repeats, climbs, startsOver, refusedBy, Effect, stays, goesOn, startsAt, effect, verdict}
-use Rattle.machine.specs.Held.{machineOf}
-use Rattle.machine.proofs.Laws.{not-empty, Means, verdict-means, climb-parts, repeats-count, climbs-count, starts-count}
+use Rattle.ladder_machine.specs.Machine.{Request, asked, refusal, Verdict, refuses, repeats, climbs, startsOver, refusedBy, Effect, stays, goesOn, startsAt, effect, verdict}
+use Rattle.ladder_machine.specs.Held.{machineOf}
+use Rattle.ladder_machine.proofs.Laws.{not-empty, Means, verdict-means, climb-parts, repeats-count, climbs-count, starts-count}
 use Rattle.ladder.specs.declared.Ladder.{Ladder}
 use Rattle.ladder.specs.Ladder.{stateOf, heldIn, stateFor, carriedValue, carriedDerivative, climbedTo, Given, pairThen, givenOn, answered, outcome, valuesThen, derivativesThen, outcomeBy, requested}
 use Rattle.ladder.specs.Ladder.Open.{stateFor-is, climbedTo-is, state-stays, state-goes-on, state-starts, values-stay, values-go-on, values-start, derivatives-stay, derivatives-go-on, derivatives-start, outcome-by, requested-is}

@@ -1,12 +1,12 @@
--- A refused request hands back the state that it was given. Assumes nothing.
+-- A refused request hands back the state that it was given.
 use mathlib.Core.Path.{_≡_}
 use mathlib.Core.Bool.{false, true≢false}
 use mathlib.Core.List.{List}
 use lib.Dec.{eqb}
 use lib.ListN.{length}
 use lib.Ieee.{Float}
-use Rattle.machine.specs.Machine.{Request, asked, Verdict, refuses, repeats, climbs, startsOver, refusedBy, effect, verdict}
-use Rattle.machine.specs.Held.{machineOf}
+use Rattle.ladder_machine.specs.Machine.{Request, asked, Verdict, refuses, repeats, climbs, startsOver, refusedBy, effect, verdict}
+use Rattle.ladder_machine.specs.Held.{machineOf}
 use Rattle.ladder.specs.declared.Ladder.{Ladder}
 use Rattle.ladder.specs.Ladder.{heldIn, givenOn, stateThen, requested}
 use Rattle.ladder.specs.Ladder.Open.{state-stays, outcome-by, requested-is}

@@ -1,4 +1,4 @@
--- What a start-over leaves and holds, from what its parts find and fill. Assumes nothing.
+-- What a start-over leaves and holds, from what its parts find and fill.
 use mathlib.Core.Path.{_≡_, sym, ap, _∙_}
 use mathlib.Core.List.{List}
 use mathlib.Core.Bool.{Bool, true}
@@ -10,16 +10,15 @@ use lib.Ieee.{Float, binary64, fits}
 use Rattle.order.specs.Order.{below, shifted, fractionOf, topRung, num}
 use Rattle.order.specs.Facts.{Split}
 use Rattle.order.proofs.Facts.{split-facts}
-use Rattle.value_column.specs.Filled.{filled}
-use Rattle.value_column.specs.Slots.{slot}
-use Rattle.columns.specs.Columns.{roomFor, valueColumn, derivativeColumn}
-use Rattle.columns.proofs.Room.{room-for}
+use Rattle.slots.specs.Slots.{filled, slot}
+use Rattle.ladder_columns.specs.Columns.{roomFor, valueColumn, derivativeColumn}
+use Rattle.ladder_columns.proofs.Room.{room-for}
 use Rattle.value_column.proofs.Branches.{slot-filled}
-use Rattle.columns.proofs.Columns.{value-column-is, derivative-column-is}
+use Rattle.ladder_columns.proofs.Columns.{value-column-is, derivative-column-is}
 use Rattle.tables.specs.Tables.{sequenceOf, valueOf, derivativeOf}
 use Rattle.tables.proofs.Calls.{value-is, derivative-is}
-use Rattle.machine.specs.Machine.{Request, refusal}
-use Rattle.machine.proofs.Laws.{accepted}
+use Rattle.ladder_machine.specs.Machine.{Request, refusal}
+use Rattle.ladder_machine.proofs.Laws.{accepted}
 use Rattle.ladder.specs.Ladder.{stateOf, stateFor}
 use Rattle.ladder.specs.Ladder.Open.{stateFor-is}
 

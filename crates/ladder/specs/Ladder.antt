@@ -6,17 +6,17 @@ use mathlib.Core.Bool.{false}
 use lib.ListN.{length}
 use lib.Ieee.{Float}
 use Rattle.floats.specs.Operations.{f0}
-use Rattle.recurrence.specs.declared.Function.the-variants.{D}
+use Rattle.floats.specs.declared.Function.the-variants.{D}
 use Rattle.recurrence.specs.Recurrence.{step}
 use Rattle.recurrence.specs.ThreeTerm.{continued}
 use Rattle.derivatives.specs.Derivatives.{derivative}
 use Rattle.rungs.specs.declared.Sequence.{Sequence}
-use Rattle.value_column.specs.Filled.{filled}
-use Rattle.refusals.specs.Answer.{refusalOf, pairOf}
+use Rattle.slots.specs.Slots.{filled}
+use Rattle.answer.specs.Answer.{refusalOf, pairOf}
 use Rattle.tables.specs.Tables.{sequenceOf, valueOf, derivativeOf}
-use Rattle.machine.specs.declared.Held.{Held}
-use Rattle.machine.specs.Machine.{Request, asked, Verdict, refusedBy, written, Effect, stays, goesOn, startsAt, effect, verdict}
-use Rattle.machine.specs.Held.{machineOf}
+use Rattle.ladder_machine.specs.declared.Held.{Held}
+use Rattle.ladder_machine.specs.Machine.{Request, asked, Verdict, refusedBy, written, Effect, stays, goesOn, startsAt, effect, verdict}
+use Rattle.ladder_machine.specs.Held.{machineOf}
 use Rattle.ladder.specs.declared.Ladder.{Ladder}
 use Rattle.ladder.specs.declared.Written.{Written}
 use Rattle.ladder.specs.declared.Written.the-variants.{Count, Nothing}

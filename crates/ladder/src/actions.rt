@@ -4,19 +4,19 @@ ghost use mathlib.Core.Path.{_≡_};
 ghost use Prim.Native.Nat.{_+_, _≤_};
 ghost use lib.ListN.{length};
 ghost use Rattle.order.specs.Order.{topRung};
-ghost use Rattle.value_column.specs.Filled.{filled};
+ghost use Rattle.slots.specs.Slots.{filled};
 ghost use Rattle.tables.specs.Tables.{valueOf, derivativeOf};
-ghost use Rattle.machine.specs.Machine.{asks, asked, refusal, refuses, verdict};
-ghost use Rattle.machine.specs.Held.{machineOf, verdictOf};
+ghost use Rattle.ladder_machine.specs.Machine.{asks, asked, refusal, refuses, verdict};
+ghost use Rattle.ladder_machine.specs.Held.{machineOf, verdictOf};
 ghost use Rattle.ladder.specs.Ladder.{heldIn, stateFor, givenBy, givenOn, answered, outcome, outcomeBy};
 use crate::Ladder;
 use crate::Reply;
 use crate::Written;
 use crate::climbing::climb;
 use crate::states::state_of;
-use machine::Judgement;
+use floats::Function;
+use ladder_machine::Judgement;
 use order::Rung;
-use recurrence::Function;
 use rungs::Sequence;
 use tables::Answer;
 
@@ -67,7 +67,7 @@ fn start_over(
         x: x,
         f: o.f,
     };
-    columns::fill_columns(values, derivatives, sequence, o.u, n);
+    ladder_columns::fill_columns(values, derivatives, sequence, o.u, n);
     let top = n as usize;
     let last = top - 1;
     state_of(sequence, n, values[last], values[top])

@@ -3,7 +3,7 @@
 ghost use mathlib.Core.Path.{_≡_};
 ghost use Prim.Native.Nat.{_+_, _-_, _≤_, _<_};
 ghost use lib.ListN.{length};
-ghost use Rattle.value_column.specs.Filled.{filled};
+ghost use Rattle.slots.specs.Slots.{filled};
 ghost use Rattle.ladder.specs.Ladder.{carriedValue, carriedDerivative, climbedTo};
 use crate::Ladder;
 use crate::states::sequence_in;

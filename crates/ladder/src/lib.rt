@@ -7,12 +7,12 @@ mod states;
 
 ghost use mathlib.Core.Path.{_≡_};
 ghost use mathlib.Core.Bool.{true};
-ghost use Rattle.machine.specs.Machine.{asks};
-ghost use Rattle.machine.specs.Held.{countsEmpty};
+ghost use Rattle.ladder_machine.specs.Machine.{asks};
+ghost use Rattle.ladder_machine.specs.Held.{countsEmpty};
 ghost use Rattle.ladder.specs.Ladder.{emptyState, heldIn, givenBy, outcome, requested};
 use actions::act;
+use floats::Function;
 use order::Rung;
-use recurrence::Function;
 use rungs::Sequence;
 use states::held_in;
 pub use states::state_of;
@@ -70,7 +70,14 @@ impl Ladder {
         ensures { λ r. ⌜ outcome (givenBy r) (now (values .exit)) (now (derivatives .exit)) ≡ requested self (asks function v x) (now (values .entry)) (now (derivatives .entry)) ⌝ }
     {
         let held = held_in(self);
-        let judgement = machine::judge(held, function, v, x, values.len(), derivatives.len());
+        let judgement = ladder_machine::judge(
+            held,
+            function,
+            v,
+            x,
+            values.len(),
+            derivatives.len(),
+        );
         act(values, derivatives, self, judgement, function, v, x)
     }
 }

@@ -3,7 +3,7 @@
 ghost use mathlib.Core.Path.{_≡_};
 ghost use Rattle.ladder.specs.Ladder.{stateOf, sequenceIn, heldIn};
 use crate::Ladder;
-use machine::Held;
+use ladder_machine::Held;
 use order::Rung;
 use rungs::Sequence;
 

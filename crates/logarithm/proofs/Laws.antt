@@ -1,4 +1,4 @@
--- What the crates above may know of ln and of powers beside their contracts. Assumes nothing.
+-- What the crates above may know of ln and of powers beside their contracts.
 use mathlib.Core.Path.{_≡_, refl, ap, _∙_}
 use mathlib.Core.List.{List}
 use mathlib.Core.Bool.{false}

@@ -1,4 +1,4 @@
--- What `ln` is, by the tests that the code makes. Assumes nothing.
+-- What `ln` is, by the tests that the code makes.
 use mathlib.Core.Path.{_≡_, sym, ap, _∙_, subst}
 use mathlib.Core.Bool.{Bool, true, false, not, _||_, Bool·beq}
 use Prim.Native.Nat.{ℕ, zero, suc, _+_, _*_, _^_, _<_, _≤_}

@@ -1,5 +1,5 @@
 -- The significand and the exponent of a float above 0, by its bit pattern. N * 2 ^ e has the `size N` digits of N and is N * 2 ^ E units of 2 ^ -1074.
--- Its pattern has the 53 digits N * 2 ^ (53 - size N), and its field says how many places lie below them. Assumes nothing.
+-- Its pattern has the 53 digits N * 2 ^ (53 - size N), and its field says how many places lie below them.
 use mathlib.Core.Path.{_≡_, refl, sym, ap, _∙_, subst}
 use mathlib.Core.Bool.{Bool, true, false, _&&_}
 use Prim.Native.Nat.{ℕ, zero, suc, _+_, _-_, _*_, _/_, _%_, _^_, _<_, _≤_}

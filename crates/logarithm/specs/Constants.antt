@@ -11,11 +11,3 @@ root2 = bits 0x3ff6_a09e_667f_3bcd
 pub root2-is : root2 ≡ decimal 14142135623730951 16
 unfolding decimal ofBits
 root2-is = refl
-
--- 2
-abbrev pub f2 : Float
-f2 = bits 0x4000_0000_0000_0000
-
-pub f2-is : f2 ≡ decimal 2 0
-unfolding decimal ofBits
-f2-is = refl

@@ -6,11 +6,11 @@ use mathlib.Core.Bool.{true, false, cond}
 use Prim.Native.Nat.{ℕ, zero, suc, _+_, _-_, _*_}
 use lib.IntN.{ℤ, pos, negℤ, _+ℤ_}
 use lib.Ieee.{Float, nan, inf, fin, size, le, eq}
-use Rattle.floats.specs.Operations.{_⊕_, _⊖_, _⊗_, _⊘_, float, whole, f0, f½, f1}
-use Rattle.near.specs.Near.{downTo}
+use Rattle.floats.specs.Operations.{_⊕_, _⊖_, _⊗_, _⊘_, float, whole, f0, f½, f1, f2}
+use Rattle.floats.specs.Loops.{downTo}
 use Rattle.exponential.specs.Constants.{ln2High, ln2Low}
 use Rattle.exponential.specs.Exponential.{exp}
-use Rattle.logarithm.specs.Constants.{root2, f2}
+use Rattle.logarithm.specs.Constants.{root2}
 
 -- ---- "ln b"
 

@@ -6,7 +6,7 @@ use mathlib.Core.Option.{Option}
 use Prim.Native.Nat.{ℕ}
 use lib.Ieee.{Float, isNan}
 use Rattle.signs.specs.Signs.{infinite}
-use Rattle.refusals.specs.Answer.{answerBy}
+use Rattle.answer.specs.Answer.{answerBy}
 use Rattle.maclaurin_series.specs.Series.{pbMaclaurin}
 
 -- 1 where an input number is NaN, 5 where one is infinite, 0 where it is accepted

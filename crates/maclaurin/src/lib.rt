@@ -1,10 +1,10 @@
 // The request of the Maclaurin series, with its refusals. It answers every input.
 
 ghost use mathlib.Core.Path.{_≡_};
-ghost use Rattle.refusals.specs.Answer.{refusalOf, pairOf};
+ghost use Rattle.answer.specs.Answer.{refusalOf, pairOf};
 ghost use Rattle.maclaurin.specs.Maclaurin.{anyOf, refusal, answer};
+use answer::Answer;
 use maclaurin_series::pb_maclaurin;
-use refusals::Answer;
 use signs::is_infinite;
 use signs::is_nan;
 

@@ -1,12 +1,12 @@
--- Pairs of the Maclaurin series by computing, at exponents where e^0 is taken: mul_exp's law gives the factor 1. Assumes nothing.
+-- Pairs of the Maclaurin series by computing, at exponents where e^0 is taken: mul_exp's law gives the factor 1.
 use mathlib.Core.Path.{_≡_, refl, _∙_}
 use mathlib.Core.Bool.{false}
 use lib.Ieee.{Float, add, sub, mul, lt, ofBits}
-use Rattle.floats.specs.Operations.{_⊕_, _⊖_, _⊗_, bits, decimal, f0, f½, f1}
+use Rattle.floats.specs.Operations.{_⊕_, _⊖_, _⊗_, bits, decimal, f0, f½, f1, ln2}
 use Rattle.signs.specs.Signs.{absolute}
 use Rattle.mul_exp.specs.MulExp.{mulExp}
 use Rattle.mul_exp.proofs.Laws.{mul-exp-zero}
-use Rattle.maclaurin_series.specs.Constants.{ln2, smallest, scale, f600}
+use Rattle.maclaurin_series.specs.Constants.{shortFormLimit, scale, f600}
 use Rattle.maclaurin_series.specs.Series.{series, shortForm, pbMaclaurin}
 use Rattle.maclaurin_series.specs.Series.Open.{short, long}
 
@@ -18,7 +18,7 @@ unscaled : (p : Float × Float) → both (λ (m : Float). mulExp m f0) p ≡ bot
 unscaled p = rw (mul-exp-zero (p .0), mul-exp-zero (p .1))
 
 -- the series with the exponent 0; specs/Series/Examples.antt has values of its sums
-pub with-no-exponent : (a x c0 c1 : Float) → lt (absolute x) smallest ≡ false
+pub with-no-exponent : (a x c0 c1 : Float) → lt (absolute x) shortFormLimit ≡ false
     → pbMaclaurin a x c0 c1 f0 ≡ (series a x c0 c1 .4 ⊗ f1 ⊗ f1, series a x c0 c1 .5 ⊗ f1 ⊗ f1)
 with-no-exponent a x c0 c1 h = long a x c0 c1 f0 h ∙ unscaled (series a x c0 c1 .4, series a x c0 c1 .5)
 

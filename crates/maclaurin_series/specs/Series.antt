@@ -5,12 +5,12 @@ pub mod Examples
 use mathlib.Core.Bool.{false, cond}
 use Prim.Native.Nat.{ℕ}
 use lib.Ieee.{Float, inf, lt, le}
-use Rattle.floats.specs.Operations.{_⊕_, _⊖_, _⊗_, _⊘_, whole, f0, f1}
+use Rattle.floats.specs.Operations.{_⊕_, _⊖_, _⊗_, _⊘_, whole, f0, f1, f2, f¼, ln2}
 use Rattle.signs.specs.Signs.{absolute}
 use Rattle.extremes.specs.Extremes.{lesser, greater}
 use Rattle.floats.specs.Loops.{Turn, countUp}
 use Rattle.mul_exp.specs.MulExp.{mulExp}
-use Rattle.maclaurin_series.specs.Constants.{ln2, smallest, tiny, scale, f600, f¼, f2}
+use Rattle.maclaurin_series.specs.Constants.{shortFormLimit, seriesEpsilon, scale, f600}
 
 -- ---- the series
 
@@ -28,7 +28,7 @@ unfoldable pub turn : Float → Float → ℕ → State → Turn State
 turn a x n (c0, c1, c2, c3, d, dp, xn, prev) =
     let c = nextCoefficient a n c0 c2 in
     let term = (whole n ⊕ f2) ⊗ c ⊗ xn in (
-      le (greater (absolute term) prev) (tiny ⊗ lesser (absolute (dp ⊕ term)) (absolute (d ⊕ c ⊗ (xn ⊗ x)) ⊘ absolute x)),
+      le (greater (absolute term) prev) (seriesEpsilon ⊗ lesser (absolute (dp ⊕ term)) (absolute (d ⊕ c ⊗ (xn ⊗ x)) ⊘ absolute x)),
       (c1, c2, c3, c, d ⊕ c ⊗ (xn ⊗ x), dp ⊕ term, xn ⊗ x, absolute term),
     )
 
@@ -46,4 +46,4 @@ shortForm a x c0 c1 e =
 
 -- "if x.abs() < 1e-150 { .. }", "(mul_exp(d, e), mul_exp(dp, e))"
 pub pbMaclaurin : Float → Float → Float → Float → Float → Float × Float
-pbMaclaurin a x c0 c1 e = cond (lt (absolute x) smallest) (shortForm a x c0 c1 e) (mulExp (series a x c0 c1 .4) e, mulExp (series a x c0 c1 .5) e)
+pbMaclaurin a x c0 c1 e = cond (lt (absolute x) shortFormLimit) (shortForm a x c0 c1 e) (mulExp (series a x c0 c1 .4) e, mulExp (series a x c0 c1 .5) e)

@@ -2,12 +2,10 @@
 
 ghost use mathlib.Core.Path.{_≡_};
 ghost use Rattle.maclaurin_series.specs.Series.{series, shortForm, pbMaclaurin};
+use floats::LN_2;
 use mul_exp::Both;
 use mul_exp::mul_exp_both;
 use signs::abs;
-
-// The source's LN_2.
-const LN_2: f64 = 0.6931471805599453;
 
 // 2^600, the source's pow2(600).
 const SCALE: f64 = 4.149515568880993e180;

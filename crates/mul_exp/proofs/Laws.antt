@@ -1,4 +1,4 @@
--- What the crates above may know of mul_exp beside its contract. Assumes nothing.
+-- What the crates above may know of mul_exp beside its contract.
 use mathlib.Core.Path.{_≡_, refl, _∙_, ap}
 use lib.Ieee.{Float, add, mul, neg, lt, ofBits}
 use Rattle.floats.specs.Operations.{_⊗_, decimal, f0, f1}

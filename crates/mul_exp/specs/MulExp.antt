@@ -9,12 +9,12 @@ use Rattle.exponential.specs.Exponential.{exp}
 use Rattle.logarithm.specs.Logarithm.{ln}
 
 -- 1400
-abbrev pub largest : Float
-largest = bits 0x4095_e000_0000_0000
+abbrev pub halvedLimit : Float
+halvedLimit = bits 0x4095_e000_0000_0000
 
-pub largest-is : largest ≡ decimal 1400 0
+pub halvedLimit-is : halvedLimit ≡ decimal 1400 0
 unfolding decimal ofBits
-largest-is = refl
+halvedLimit-is = refl
 
 -- "m * h * h"
 abbrev pub twice : Float → Float → Float
@@ -22,4 +22,4 @@ twice m h = m ⊗ h ⊗ h
 
 -- "if e.abs() > 1400.0 { return m.signum() * (m.abs().ln() + e).exp(); }", "let h = (0.5 * e).exp();"
 pub mulExp : Float → Float → Float
-mulExp m e = cond (lt largest (absolute e)) (signOf m ⊗ exp (ln (absolute m) ⊕ e)) (twice m (exp (f½ ⊗ e)))
+mulExp m e = cond (lt halvedLimit (absolute e)) (signOf m ⊗ exp (ln (absolute m) ⊕ e)) (twice m (exp (f½ ⊗ e)))

@@ -1,4 +1,4 @@
--- Sizes of integers: half of one, the rest, and a difference of two naturals, for the casts to i32 and for the exponents of exp. Assumes nothing.
+-- Sizes of integers: half of one, the rest, and a difference of two naturals, for the casts to i32 and for the exponents of exp.
 use mathlib.Core.Path.{_≡_}
 use mathlib.Core.Bool.{Bool, true, false, cond}
 use Prim.Native.Nat.{ℕ, zero, suc, _+_, _-_, _*_, _/_, _≤_}

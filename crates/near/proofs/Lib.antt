@@ -1,3 +1,2 @@
-pub mod Countdown
 pub mod Integers
 pub mod NearRange

@@ -1,4 +1,4 @@
--- What near is, and its range: near of a size of at most n is at most n + 1 in size. Assumes nothing.
+-- What near is, and its range: near of a size of at most n is at most n + 1 in size.
 use mathlib.Core.Path.{_≡_, refl}
 use mathlib.Core.Bool.{Bool, true, false, cond}
 use Prim.Native.Nat.{ℕ, _+_, _-_, _*_, _/_, _^_, _≤_, _<_, min}

@@ -1,6 +1,5 @@
--- What 01's elementary functions share: near, and the loop of their series. Crates above can unfold both, to compute values of these functions.
+-- What 01's elementary functions share: near. Crates above can unfold it, to compute values of these functions.
 use mathlib.Core.Bool.{cond}
-use Prim.Native.Nat.{ℕ, zero, suc, _+_}
 use lib.IntN.{ℤ}
 use lib.Ieee.{Float, le, toSigned}
 use Rattle.floats.specs.Operations.{_⊕_, _⊖_, f0, f½}
@@ -9,8 +8,3 @@ use Rattle.floats.specs.Operations.{_⊕_, _⊖_, f0, f½}
 -- trigonometric's proofs/NearRange.antt)
 unfoldable pub near : Float → ℤ
 near t = toSigned 31 (cond (le f0 t) (t ⊕ f½) (t ⊖ f½))
-
--- n turns, for j = last + n − 1 down to last: p becomes f j p
-unfoldable pub downTo : (ℕ → Float → Float) → ℕ → ℕ → Float → Float
-downTo f last zero p = p
-downTo f last (suc n) p = downTo f last n (f (last + n) p)

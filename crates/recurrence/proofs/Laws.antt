@@ -3,7 +3,7 @@
 use mathlib.Core.Path.{_≡_}
 use mathlib.Core.Bool.{Bool, false}
 use lib.Ieee.{Float}
-use Rattle.recurrence.specs.declared.Function.the-variants.{D}
+use Rattle.floats.specs.declared.Function.the-variants.{D}
 use Rattle.recurrence.specs.Recurrence.{ownRungTwo}
 pub use Rattle.recurrence.specs.Recurrence.Open.{ownRungTwo-D, ownRungTwo-V-above, ownRungTwo-V-below, nextRung-is}
 

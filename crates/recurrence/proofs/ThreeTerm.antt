@@ -1,4 +1,4 @@
--- The laws of `continued`: its terms, two recurrences that agree, and a sequence taken up in the middle. Assumes nothing.
+-- The laws of `continued`: its terms, two recurrences that agree, and a sequence taken up in the middle.
 use mathlib.Core.Path.{_≡_, refl, sym, ap, _∙_}
 use Prim.Native.Nat.{ℕ, zero, suc, _+_}
 use native.Mathlib.Nat.{zero-add}

@@ -1,4 +1,4 @@
--- Steps behind 01's examples, at x = 0 and f = 0, as laws for the crates above. Assumes nothing.
+-- Steps behind 01's examples, at x = 0 and f = 0, as laws for the crates above.
 use mathlib.Core.Path.{_≡_, ap}
 use Prim.Native.Nat.{ℕ}
 use mathlib.Core.Bool.{true}
@@ -6,7 +6,7 @@ use mathlib.Core.List.{List}
 use lib.ListN.{getD}
 use lib.Ieee.{Float, nan, eq, ofBits}
 use Rattle.floats.specs.Operations.{f0}
-use Rattle.recurrence.specs.declared.Function.the-variants.{«V»}
+use Rattle.floats.specs.declared.Function.the-variants.{«V»}
 use Rattle.recurrence.specs.Recurrence.{ownRungTwo}
 use Rattle.recurrence.specs.Recurrence.Open.{ownRungTwo-V-below}
 use Rattle.recurrence.specs.Recurrence.Examples.{computed, values, examples-hold}

@@ -5,10 +5,9 @@ use Prim.Native.Nat.{ℕ}
 use mathlib.Core.Bool.{Bool, true, false, _&&_, cond}
 use lib.Dec.{eqb}
 use lib.Ieee.{Float, neg, eq}
-use Rattle.floats.specs.Operations.{_⊕_, _⊖_, _⊗_, _⊘_, whole, f0, f1}
-use Rattle.logarithm.specs.Constants.{f2}
-use Rattle.recurrence.specs.declared.Function.{Function}
-use Rattle.recurrence.specs.declared.Function.the-variants.{D, «V»}
+use Rattle.floats.specs.Operations.{_⊕_, _⊖_, _⊗_, _⊘_, whole, f0, f1, f2}
+use Rattle.floats.specs.declared.Function.{Function}
+use Rattle.floats.specs.declared.Function.the-variants.{D, «V»}
 pub mod Open
 pub mod Examples
 

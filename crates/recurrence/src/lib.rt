@@ -2,13 +2,8 @@
 
 ghost use mathlib.Core.Path.{_≡_};
 ghost use Rattle.recurrence.specs.Recurrence.{step, ownRungTwo, nextRung, stepDown};
+use floats::Function;
 use order::Rung;
-
-// Which function: D is DLMF's U, by its order.
-pub enum Function {
-    D,
-    V,
-}
 
 // Rung k from the two below it.
 pub fn step(function: Function, below: bool, x: f64, f: f64, k: Rung, low: f64, high: f64) -> f64

@@ -1,5 +1,5 @@
 -- The certificate of a guess q: what the two differences of `certified_root` stand for, and which of q - 1, q and q + 1 the remainder makes nearest. With
--- q = high * 2 ^ 26 + low neither difference has wrapped where it is small, so the remainder radicand * 2 ^ 52 - q ^ 2 is exact. Assumes nothing.
+-- q = high * 2 ^ 26 + low neither difference has wrapped where it is small, so the remainder radicand * 2 ^ 52 - q ^ 2 is exact.
 use mathlib.Core.Path.{_≡_, sym, ap, _∙_, subst}
 use mathlib.Core.Logic.{inl, inr}
 use Prim.Native.Nat.{ℕ, zero, suc, _+_, _-_, _*_, _/_, _%_, _^_, _≤_, _<_}

@@ -1,5 +1,5 @@
 -- The loop over the 53 digits of a root: what holds while some are left, and how a step keeps it. With `left` digits to come the number whose digits are
--- passed counts 2 ^ 54 * 4 ^ left times, and the rest 4 ^ left times: together they are radicand * 2 ^ 106 at each step. Assumes nothing.
+-- passed counts 2 ^ 54 * 4 ^ left times, and the rest 4 ^ left times: together they are radicand * 2 ^ 106 at each step.
 use mathlib.Core.Path.{_≡_, sym, ap}
 use Prim.Native.Nat.{ℕ, zero, suc, _+_, _-_, _*_, _/_, _%_, _^_, _≤_, _<_}
 use native.Mathlib.Nat.{zero-add, mul-le-mul-left, mul-le-mul-right, pow-succ'}

@@ -1,4 +1,4 @@
--- The digits of a float at 53 places: a subnormal's are moved up by one place at each turn of a loop, and any other pattern has them. Assumes nothing.
+-- The digits of a float at 53 places: a subnormal's are moved up by one place at each turn of a loop, and any other pattern has them.
 use mathlib.Core.Path.{_≡_, refl, sym, _∙_, ap, subst}
 use Prim.Native.Nat.{ℕ, zero, suc, _+_, _-_, _*_, _/_, _%_, _^_, _≤_, _<_}
 use native.Mathlib.Nat.{pow-succ', mul-assoc}

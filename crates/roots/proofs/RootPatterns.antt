@@ -1,5 +1,5 @@
 -- The square root of x by the pattern of x: its sign, its exponent's field and its fraction say which case of the definition holds, and the root's pattern
--- is made of the root's exponent and significand. Assumes nothing.
+-- is made of the root's exponent and significand.
 use mathlib.Core.Path.{_≡_, refl, sym, _∙_, ap, subst}
 use mathlib.Core.Bool.{Bool, true, false, not, cond}
 use mathlib.Core.Logic.{inl, inr}

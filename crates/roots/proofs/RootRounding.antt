@@ -1,5 +1,5 @@
 -- The root of x * 4 ^ c in units of 2 ^ c, rounded: the whole root q of x, or q + 1 where x is above the square of the middle, q + 1/2. That square lies
--- between q * q + q and the next whole number, so no x is a tie. Assumes nothing.
+-- between q * q + q and the next whole number, so no x is a tie.
 use mathlib.Core.Path.{_≡_, refl, sym, _∙_, ap, subst}
 use mathlib.Core.Bool.{not}
 use mathlib.Core.Logic.{inl, inr}

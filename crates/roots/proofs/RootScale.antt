@@ -1,5 +1,5 @@
 -- The scale of a root: n * 2 ^ 1074 is radicand * 2 ^ 52 * 4 ^ c, a number of 105 or 106 digits with 2 * c zeros behind it, so the definition drops c digits
--- of the root. At an even exponent the radicand is twice the significand. Assumes nothing.
+-- of the root. At an even exponent the radicand is twice the significand.
 use mathlib.Core.Path.{_≡_, refl, sym, _∙_, ap, subst}
 use mathlib.Core.Bool.{false}
 use Prim.Native.Nat.{ℕ, zero, suc, _+_, _-_, _*_, _/_, _%_, _^_, _≤_, _<_}

@@ -1,4 +1,4 @@
--- The whole root of n, by induction on its digits: its square is at most n and the next number's square is above n, which is true of one number only. Assumes nothing.
+-- The whole root of n, by induction on its digits: its square is at most n and the next number's square is above n, which is true of one number only.
 use mathlib.Core.Path.{_≡_}
 use mathlib.Core.Bool.{cond}
 use mathlib.Core.Logic.{inl, inr}

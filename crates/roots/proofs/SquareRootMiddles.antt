@@ -1,5 +1,5 @@
 -- The middle of a rounded root q * 2 ^ c and any other float s * 2 ^ k lies on the float's side of the root: the float is at least a step of 2 ^ c away,
--- and the rounding has compared the root with the middle of that step. Assumes nothing.
+-- and the rounding has compared the root with the middle of that step.
 use mathlib.Core.Path.{_≡_, sym, _∙_, ap}
 use mathlib.Core.Logic.{inl, inr}
 use Prim.Native.Nat.{ℕ, zero, suc, _+_, _-_, _*_, _^_, _≤_, _<_}

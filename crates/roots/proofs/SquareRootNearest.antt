@@ -1,5 +1,5 @@
 -- The square root is the nearest float, and no other is as near. A float above 0 has 53 digits at some exponent, and they give the scale of its root;
--- there the root is rounded, and its middle with each other float is compared with it. Assumes nothing.
+-- there the root is rounded, and its middle with each other float is compared with it.
 use mathlib.Core.Path.{_≡_, refl, sym, _∙_, ap, subst}
 use mathlib.Core.Bool.{Bool, true, false}
 use Prim.Native.Nat.{ℕ, zero, suc, _+_, _-_, _*_, _/_, _%_, _^_, _≤_, _<_}

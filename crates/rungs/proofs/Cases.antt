@@ -1,12 +1,11 @@
--- The definitions by the outcomes of their tests, for the proofs of the code that makes them. Assumes nothing.
+-- The definitions by the outcomes of their tests, for the proofs of the code that makes them.
 use mathlib.Core.Path.{_≡_}
 use mathlib.Core.Bool.{true, false}
 use lib.Ieee.{Float, neg, le}
-use Rattle.floats.specs.Operations.{_⊗_}
+use Rattle.floats.specs.Operations.{_⊗_, f¼}
 use Rattle.signs.specs.Signs.{absolute}
 use Rattle.exponential.specs.Exponential.{exp}
-use Rattle.small_sums.specs.Constants.{quarter}
-use Rattle.start_sums.specs.Constants.{rootTwoOverPi}
+use Rattle.start_sums_large.specs.Constants.{rootTwoOverPi}
 use Rattle.recurrence.specs.Recurrence.{ownRungTwo}
 use Rattle.rungs.specs.declared.Sequence.{Sequence}
 use Rattle.rungs.specs.Rungs.{startSum, smallLimit, startValue, startsGaussian, nextOrder, startRungs}
@@ -22,12 +21,12 @@ module _ (r : Sequence) (va : Float) where
 -- ---- the start rungs: e, a and b are what the calls give
 
 module _ (r : Sequence) where
-  pub rungs-gaussian : (e : Float) → startsGaussian (r .function) (r .below) (r .f) ≡ true → e ≡ exp (neg quarter ⊗ r .x ⊗ r .x)
+  pub rungs-gaussian : (e : Float) → startsGaussian (r .function) (r .below) (r .f) ≡ true → e ≡ exp (neg f¼ ⊗ r .x ⊗ r .x)
       → _≡_ {A = Float × Float} (e, r .x ⊗ e) (startRungs r)
   rungs-gaussian e t h = rw (startRungs-is r, t, gaussian-is (r .x), h)
 
   pub rungs-own : (a e : Float) → startsGaussian (r .function) (r .below) (r .f) ≡ false → ownRungTwo (r .function) (r .below) (r .f) ≡ true
-      → a ≡ startValue r (r .f) → e ≡ exp (quarter ⊗ r .x ⊗ r .x) → _≡_ {A = Float × Float} (a, rootTwoOverPi ⊗ e) (startRungs r)
+      → a ≡ startValue r (r .f) → e ≡ exp (f¼ ⊗ r .x ⊗ r .x) → _≡_ {A = Float × Float} (a, rootTwoOverPi ⊗ e) (startRungs r)
   rungs-own a e t u g h = rw (startRungs-is r, t, u, growth-is (r .x), g, h)
 
   pub rungs-summed : (a b order : Float) → startsGaussian (r .function) (r .below) (r .f) ≡ false → ownRungTwo (r .function) (r .below) (r .f) ≡ false

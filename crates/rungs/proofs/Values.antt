@@ -1,5 +1,5 @@
 -- The rungs behind 01's examples, at x = 0 and f = 0, as laws for the crates above: from the start rungs, which exponential and start_sums give, by
--- computed steps. Assumes nothing.
+-- computed steps.
 use mathlib.Core.Path.{_≡_, sym, ap, _∙_}
 use Prim.Native.Nat.{ℕ, suc, _+_}
 use native.Mathlib.Omega.{arith}
@@ -8,9 +8,9 @@ use lib.Ieee.{Float, add, mul, neg, le, eq, ofBits}
 use Rattle.floats.specs.Operations.{_⊗_, decimal, f0, f1}
 use Rattle.signs.specs.Signs.{absolute}
 use Rattle.exponential.proofs.Laws.{exp-zero, exp-minus-zero}
-use Rattle.start_sums.specs.Constants.{rootTwoOverPi}
-use Rattle.small_sums.proofs.Laws.{vvsa-zero-zero}
-use Rattle.recurrence.specs.declared.Function.the-variants.{D, «V»}
+use Rattle.start_sums_large.specs.Constants.{rootTwoOverPi}
+use Rattle.start_sums_small.proofs.Laws.{vvsa-zero-zero}
+use Rattle.floats.specs.declared.Function.the-variants.{D, «V»}
 use Rattle.recurrence.specs.Recurrence.{step, nextRung}
 use Rattle.derivatives.specs.Derivatives.{derivative}
 use Rattle.recurrence.proofs.Laws.{ownRungTwo-D, ownRungTwo-V-below, nextRung-is}

@@ -5,15 +5,14 @@
 use Prim.Native.Nat.{ℕ, _+_, _-_}
 use mathlib.Core.Bool.{Bool, true, false, cond}
 use lib.Ieee.{Float, neg, le, eq}
-use Rattle.floats.specs.Operations.{_⊕_, _⊖_, _⊗_, _⊘_, whole, f0, f1}
+use Rattle.floats.specs.Operations.{_⊕_, _⊖_, _⊗_, _⊘_, whole, f0, f1, f¼}
 use Rattle.signs.specs.Signs.{absolute}
 use Rattle.exponential.specs.Exponential.{exp}
-use Rattle.small_sums.specs.Constants.{quarter}
-use Rattle.start_sums.specs.Constants.{rootTwoOverPi}
-use Rattle.small_sums.specs.SmallSums.{dvsa, vvsa}
-use Rattle.start_sums.specs.StartSums.{dvla, vvla}
-use Rattle.recurrence.specs.declared.Function.{Function}
-use Rattle.recurrence.specs.declared.Function.the-variants.{D, «V»}
+use Rattle.start_sums_large.specs.Constants.{rootTwoOverPi}
+use Rattle.start_sums_small.specs.SmallSums.{dvsa, vvsa}
+use Rattle.start_sums_large.specs.StartSums.{dvla, vvla}
+use Rattle.floats.specs.declared.Function.{Function}
+use Rattle.floats.specs.declared.Function.the-variants.{D, «V»}
 use Rattle.recurrence.specs.Recurrence.{ownRungTwo, nextRung, stepDown}
 use Rattle.recurrence.specs.ThreeTerm.{continued}
 use Rattle.branches.specs.Constants.{f7·5}
@@ -42,10 +41,10 @@ startValue r va =
 
 -- e^(−x²/4), which is D of order 0 (12.7.1), and e^(x²/4)
 pub gaussian : Float → Float
-gaussian x = exp (neg quarter ⊗ x ⊗ x)
+gaussian x = exp (neg f¼ ⊗ x ⊗ x)
 
 pub growth : Float → Float
-growth x = exp (quarter ⊗ x ⊗ x)
+growth x = exp (f¼ ⊗ x ⊗ x)
 
 -- D from order 0 on, at f = 0: rungs 0 and 1 are 12.7.2's at n = 0 and 1
 pub startsGaussian : Function → Bool → Float → Bool

@@ -2,7 +2,7 @@
 
 mod start;
 
-use recurrence::Function;
+use floats::Function;
 pub use start::seed;
 pub use start::start_rungs;
 pub use start::start_value;

@@ -5,11 +5,11 @@ ghost use Rattle.rungs.specs.Rungs.{startSum, smallLimit, startValue, st
 use crate::Adjacent;
 use crate::Sequence;
 use exponential::exp;
+use floats::Function;
 use order::Rung;
-use recurrence::Function;
 use recurrence::has_own_rung_two;
 use signs::abs;
-use start_sums::constants::SQRT_FRAC_2_PI;
+use start_sums_large::constants::SQRT_FRAC_2_PI;
 
 // The function by its start sum, for large or for small arguments.
 fn start_sum(function: Function, large: bool, x: f64, va: f64) -> f64
@@ -18,15 +18,15 @@ fn start_sum(function: Function, large: bool, x: f64, va: f64) -> f64
     match function {
         Function::D => {
             if large {
-                return start_sums::dvla(x, va);
+                return start_sums_large::dvla(x, va);
             }
-            start_sums::dvsa(x, va)
+            start_sums_large::dvsa(x, va)
         }
         Function::V => {
             if large {
-                return start_sums::vvla(x, va);
+                return start_sums_large::vvla(x, va);
             }
-            start_sums::vvsa(x, va)
+            start_sums_large::vvsa(x, va)
         }
     }
 }

@@ -1,4 +1,4 @@
--- What 01 says of the sign, as theorems about the definitions. Assumes nothing.
+-- What 01 says of the sign, as theorems about the definitions.
 use mathlib.Core.Path.{_≡_, refl}
 use Prim.Native.Nat.{ℕ}
 use mathlib.Core.Bool.{Bool, false}

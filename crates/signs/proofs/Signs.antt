@@ -1,4 +1,4 @@
--- What each test of a program says of NaN, of the infinities and of the sign. Assumes nothing.
+-- What each test of a program says of NaN, of the infinities and of the sign.
 use mathlib.Core.Path.{_≡_, refl, sym, ap, _∙_, subst}
 use Prim.Native.Nat.{ℕ, _+_, _*_, _%_, _<_, _≤_}
 use native.Mathlib.Nat.{mod-eq-of-lt, add-mod-left}

@@ -1,4 +1,4 @@
--- Whether a table has room, by the outcomes of the code's tests. Assumes nothing.
+-- Whether a table has room, by the outcomes of the code's tests.
 use mathlib.Core.Path.{_≡_, sym, _∙_}
 use mathlib.Core.List.{List}
 use mathlib.Core.Bool.{Bool, true, false, _&&_, cond}

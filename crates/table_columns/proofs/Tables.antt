@@ -1,4 +1,4 @@
--- Both columns in one table: a turn of the derivatives' loop, and l1, l2 and l3, what the three calls leave. Assumes nothing.
+-- Both columns in one table: a turn of the derivatives' loop, and l1, l2 and l3, what the three calls leave.
 use mathlib.Core.Path.{_≡_, refl, sym, ap, _∙_}
 use mathlib.Core.List.{List}
 use mathlib.Core.Logic.{inl}
@@ -11,7 +11,7 @@ use lib.Dec.{eqb}
 use lib.ListN.{length, getD, set}
 use lib.Ieee.{Float, nan}
 use Rattle.floats.specs.Operations.{_⊗_}
-use Rattle.recurrence.specs.declared.Function.{Function}
+use Rattle.floats.specs.declared.Function.{Function}
 use Rattle.rungs.specs.declared.Sequence.{Sequence}
 use Rattle.recurrence.specs.Recurrence.{ownRungTwo}
 use Rattle.derivatives.specs.Derivatives.{derivative}
@@ -19,10 +19,10 @@ use Rattle.rungs.specs.Rungs.{rung}
 use Rattle.rungs.specs.ColumnValues.{value, derivativeAt}
 use Rattle.branches.proofs.Laws.{own-forward}
 use Rattle.rungs.proofs.Laws.{own-rung-two, value-forward, derivative-at}
-use Rattle.value_column.specs.Filled.{filled}
-use Rattle.value_column.specs.Slots.{slot, derivativeOver}
+use Rattle.slots.specs.Slots.{filled, slot}
+use Rattle.value_column.specs.OverSlots.{derivativeOver}
 use Rattle.value_column.specs.ValueColumn.{allValues}
-use Rattle.value_column.proofs.Filled.{filled-more, filled-same, filled-out}
+use Rattle.slots.proofs.Filled.{filled-more, filled-same, filled-out}
 use Rattle.value_column.proofs.Branches.{slot-filled, all-values}
 use Rattle.table_columns.specs.TableColumns.{roomIn, valuesIn, bothColumns}
 use Rattle.table_columns.specs.TableColumns.Open.{bothColumns-is, valuesIn-is}

@@ -5,11 +5,11 @@ use mathlib.Core.Bool.{Bool, _&&_, cond}
 use lib.Dec.{eqb, ltb, leb}
 use lib.ListN.{length}
 use lib.Ieee.{Float}
-use Rattle.recurrence.specs.declared.Function.{Function}
+use Rattle.floats.specs.declared.Function.{Function}
 use Rattle.rungs.specs.declared.Sequence.{Sequence}
 use Rattle.recurrence.specs.Recurrence.{ownRungTwo}
 use Rattle.rungs.specs.ColumnValues.{value, derivativeAt}
-use Rattle.value_column.specs.Filled.{filled}
+use Rattle.slots.specs.Slots.{filled}
 pub mod Open
 
 -- whether a table holds both columns of num slots each, with room for value 2, which V has also at n = 1

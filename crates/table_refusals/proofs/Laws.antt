@@ -1,4 +1,4 @@
--- The refusal by the outcomes of its tests. Assumes nothing.
+-- The refusal by the outcomes of its tests.
 use mathlib.Core.Path.{_≡_, refl, sym, _∙_}
 use mathlib.Core.Bool.{Bool, true, false, _||_, cond}
 use Prim.Native.Nat.{ℕ}

@@ -1,4 +1,4 @@
--- What a request is refused, leaves and answers, from what its parts do. Assumes nothing.
+-- What a request is refused, leaves and answers, from what its parts do.
 use mathlib.Core.Path.{_≡_, sym, _∙_}
 use mathlib.Core.List.{List}
 use mathlib.Core.Logic.{inl}
@@ -16,16 +16,15 @@ use Rattle.order.specs.Facts.{Split}
 use Rattle.order.proofs.Laws.{num-least}
 use Rattle.table_refusals.specs.Refusals.{refusalBy}
 use Rattle.table_refusals.proofs.Laws.{not-refused, accepted-by}
-use Rattle.recurrence.specs.declared.Function.{Function}
+use Rattle.floats.specs.declared.Function.{Function}
 use Rattle.rungs.specs.ColumnValues.{value, derivativeAt}
-use Rattle.value_column.specs.Filled.{filled}
-use Rattle.value_column.specs.Slots.{slot}
+use Rattle.slots.specs.Slots.{filled, slot}
 use Rattle.table_columns.specs.TableColumns.{valuesIn, bothColumns}
 use Rattle.table_columns.proofs.Room.{room-in}
 use Rattle.table_columns.proofs.Tables.{values-in, both-filled}
 use Rattle.tables.specs.Tables.{refusal, sequenceOf, valueOf, derivativeOf, valuesWritten, tableAfter, answer}
 use Rattle.tables.specs.Tables.Open.{refusal-is, valueOf-is, derivativeOf-is, valuesWritten-is, tableAfter-is, answer-is}
-use Rattle.value_column.proofs.Filled.{length-filled, filled-in, filled-out}
+use Rattle.slots.proofs.Filled.{length-filled, filled-in, filled-out}
 use Rattle.value_column.proofs.Branches.{slot-filled}
 
 -- ---- the refusal

@@ -1,4 +1,4 @@
--- The table call slot by slot, from the laws of `filled`. Assumes nothing.
+-- The table call slot by slot, from the laws of `filled`.
 use mathlib.Core.Path.{_≡_, refl, sym, _∙_}
 use mathlib.Core.List.{List}
 use mathlib.Core.Logic.{_⊎_, inl, inr}
@@ -12,14 +12,13 @@ use Rattle.order.specs.Order.{below, shifted, fractionOf, topRung, num}
 use Rattle.order.specs.Facts.{Split}
 use Rattle.order.proofs.Facts.{split-facts}
 use Rattle.order.proofs.Laws.{num-least}
-use Rattle.recurrence.specs.declared.Function.{Function}
+use Rattle.floats.specs.declared.Function.{Function}
 use Rattle.recurrence.specs.Recurrence.{ownRungTwo}
-use Rattle.value_column.specs.Filled.{filled}
-use Rattle.value_column.specs.Slots.{slot}
+use Rattle.slots.specs.Slots.{filled, slot}
 use Rattle.tables.specs.Tables.{refusal, valueOf, derivativeOf, valuesWritten, tableAfter}
 use Rattle.tables.specs.Tables.Open.{valuesWritten-is}
 use Rattle.tables.specs.Slots.{Slots, Untouched}
-use Rattle.value_column.proofs.Filled.{filled-out}
+use Rattle.slots.proofs.Filled.{filled-out}
 use Rattle.value_column.proofs.Branches.{slot-filled}
 use Rattle.table_columns.proofs.Tables.{three-values}
 use Rattle.tables.proofs.Calls.{accepted, left-as-found, after-accepted, answer-accepted, table-keeps, value-slot, derivative-slot}

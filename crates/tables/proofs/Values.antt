@@ -1,5 +1,5 @@
 -- 01's examples of the table calls, as laws: P5 to P10 and P12. The parts of each order and the rungs at x = 0 are computed in `order` and `rungs`.
--- Assumes nothing.
+--
 use mathlib.Core.Path.{_≡_, refl, ap, _∙_}
 use mathlib.Core.Bool.{Bool, true, false, cond}
 use mathlib.Core.List.{[], _∷_}
@@ -13,9 +13,9 @@ use Rattle.order.specs.Order.{f1000, below, shifted, fractionOf, topRung, num}
 use Rattle.order.specs.Order.Examples.{Parts, parts}
 use Rattle.order.proofs.Laws.{order-zero, order-one, order-two, order-minus-one, order-1000, order-999½, order-below-one, order-tiny-below, order-four, large, side, part, top, columns}
 use Rattle.table_refusals.proofs.Laws.{of-numbers}
-use Rattle.start_sums.specs.Constants.{rootTwoOverPi}
-use Rattle.recurrence.specs.declared.Function.{Function}
-use Rattle.recurrence.specs.declared.Function.the-variants.{D, «V»}
+use Rattle.start_sums_large.specs.Constants.{rootTwoOverPi}
+use Rattle.floats.specs.declared.Function.{Function}
+use Rattle.floats.specs.declared.Function.the-variants.{D, «V»}
 use Rattle.derivatives.specs.Derivatives.{derivative}
 use Rattle.recurrence.proofs.Laws.{no-own-two}
 use Rattle.recurrence.proofs.Values.{V-own-two}
@@ -27,7 +27,7 @@ use Rattle.rungs.specs.Rungs.{rung}
 use Rattle.rungs.proofs.Laws.{value-forward, derivative-at}
 use Rattle.branches.proofs.Laws.{D-forward, V-forward}
 use Rattle.rungs.proofs.Values.{D-rung-0, D-rung-1, D-rung-2, D-rung-3, D-rung-4, D-rung-5, V-rung-0, V-rung-1, V-rung-2, V-derivative-0, V-derivative-1}
-use Rattle.value_column.specs.Filled.{filled}
+use Rattle.slots.specs.Slots.{filled}
 use Rattle.table_columns.proofs.Tables.{three-values, plain-values}
 use Rattle.tables.specs.Tables.{refusal, valueOf, derivativeOf, valuesWritten, tableAfter, answer}
 use Rattle.tables.specs.Tables.Open.{refusal-is, valueOf-is, derivativeOf-is, valuesWritten-is, tableAfter-is, answer-is}

@@ -8,9 +8,9 @@ use Prim.Native.Nat.{ℕ, _+_, _-_, _≤_, _<_}
 use lib.ListN.{length}
 use lib.Ieee.{Float}
 use Rattle.order.specs.Order.{below, fractionOf, topRung, num}
-use Rattle.recurrence.specs.declared.Function.{Function}
+use Rattle.floats.specs.declared.Function.{Function}
 use Rattle.recurrence.specs.Recurrence.{ownRungTwo}
-use Rattle.value_column.specs.Slots.{slot}
+use Rattle.slots.specs.Slots.{slot}
 use Rattle.tables.specs.Tables.{valueOf, derivativeOf, valuesWritten, tableAfter, answer}
 
 -- a request that is not refused, with l the table before it

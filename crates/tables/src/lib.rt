@@ -5,12 +5,12 @@ ghost use mathlib.Core.Path.{_≡_};
 ghost use mathlib.Core.Option.{some};
 ghost use Prim.Native.Nat.{_+_, _-_, _≤_};
 ghost use lib.ListN.{length};
-ghost use Rattle.value_column.specs.Slots.{slot};
-ghost use Rattle.refusals.specs.Answer.{refusalOf, pairOf};
+ghost use Rattle.slots.specs.Slots.{slot};
+ghost use Rattle.answer.specs.Answer.{refusalOf, pairOf};
 ghost use Rattle.tables.specs.Tables.{refusal, tableAfter, answer};
+pub use answer::Answer;
+use floats::Function;
 use order::Rung;
-use recurrence::Function;
-pub use refusals::Answer;
 use rungs::Sequence;
 
 // Slot n - 1 of both columns.

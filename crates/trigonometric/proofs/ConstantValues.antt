@@ -1,12 +1,11 @@
--- The constants as fractions: their digits over a power of two. Assumes nothing.
+-- The constants as fractions: their digits over a power of two.
 use mathlib.Core.Path.{refl}
 use mathlib.Core.Bool.{false}
 use Prim.Native.Nat.{_^_}
 use lib.Ieee.{ofBits}
 use lib.Ieee.Exact.{HasValue}
-use Rattle.floats.specs.Operations.{f1}
+use Rattle.floats.specs.Operations.{f1, pi}
 use Rattle.trigonometric.specs.Constants.{twoOverPi, halfPiHigh, halfPiLow}
-use Rattle.trigonometric.specs.QuarterTurns.{pi}
 
 pub one-value : HasValue f1 false 1 1
 unfolding ofBits

@@ -1,4 +1,4 @@
--- What the crates above may know of sin and cos beside their contracts and the theorem of QuarterTurns.antt. Assumes nothing.
+-- What the crates above may know of sin and cos beside their contracts and the theorem of QuarterTurns.antt.
 use mathlib.Core.Path.{_≡_, ap}
 use mathlib.Core.List.{List}
 use Prim.Native.Nat.{ℕ}

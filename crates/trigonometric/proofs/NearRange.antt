@@ -1,4 +1,4 @@
--- The range of near in sin and cos: the quarter turns are at most 2 ^ 30 + 1 in size, so that the cast to i32 never saturates. Assumes nothing.
+-- The range of near in sin and cos: the quarter turns are at most 2 ^ 30 + 1 in size, so that the cast to i32 never saturates.
 use mathlib.Core.Path.{_≡_, sym, subst}
 use mathlib.Core.Bool.{true, false}
 use Prim.Native.Nat.{_+_, _*_, _^_, _≤_}

@@ -1,4 +1,4 @@
--- A match on the quadrant, and the quadrant of an i32. Assumes nothing.
+-- A match on the quadrant, and the quadrant of an i32.
 use mathlib.Core.Path.{_≡_, refl, _∙_, sym}
 use Prim.Native.Nat.{ℕ, zero, suc, _-_, _%_}
 use native.Mathlib.Omega.{arith}

@@ -1,5 +1,5 @@
 -- The sine at whole quarter turns. With h = 2 n + 1, y is h quarter turns to within 2 ^ -41, so that near finds h, and what is left of y is at most 2 ^ -40,
--- whose cosine is exactly 1. The long numerals are the digits of the constants (ConstantValues.antt). Assumes nothing.
+-- whose cosine is exactly 1. The long numerals are the digits of the constants (ConstantValues.antt).
 use mathlib.Core.Path.{_≡_, refl, sym, _∙_, ap, subst}
 use mathlib.Core.Bool.{Bool, true, false, cond}
 use Prim.Native.Nat.{ℕ, zero, suc, _+_, _-_, _*_, _/_, _%_, _^_, _≤_, _<_}
@@ -10,7 +10,7 @@ use lib.Dec.{eqb, lit≤, lit<}
 use lib.IntN.{pos, negsuc, negℤ}
 use lib.Ieee.{Float, binary64, unlike, below, neg, lt, le, round, ofBits, toSigned}
 use lib.Ieee.Exact.{HasValue}
-use Rattle.floats.specs.Operations.{_⊕_, _⊖_, _⊗_, _⊘_, float, whole, f0, f½, f1}
+use Rattle.floats.specs.Operations.{_⊕_, _⊖_, _⊗_, _⊘_, float, whole, f0, f½, f1, pi}
 use Rattle.floats.specs.Facts.{Between, signedInt}
 use Rattle.floats.proofs.Values.{rescale, neg-value, ofInt-value, ofInt-pos}
 use Rattle.floats.proofs.Arithmetic.{sub-is, mul-at, div-at}
@@ -20,11 +20,11 @@ use Rattle.floats.proofs.Bounds.{round-between, value-between, between-value, n
 use Rattle.floats.proofs.Bounds.{above-zero, below-zero, cut-between, one-less}
 use Rattle.near.specs.Near.{near}
 use Rattle.near.proofs.NearRange.{near-is, half-value}
-use Rattle.near.proofs.Countdown.{stays}
+use Rattle.floats.proofs.Countdown.{stays}
 use Rattle.trigonometric.specs.Constants.{twoOverPi, halfPiHigh, halfPiLow, angleEnd}
 use Rattle.trigonometric.specs.Trigonometric.{quarters, angleRest, trigTerm, sine, cosine, quadrant, byQuadrant, sin}
 use Rattle.trigonometric.specs.Trigonometric.Open.{trigSum-is, cosine-is, quadrant-pos, quadrant-neg, sinIn-is, sin-is}
-use Rattle.trigonometric.specs.QuarterTurns.{pi, QuarterTurns}
+use Rattle.trigonometric.specs.QuarterTurns.{QuarterTurns}
 use Rattle.trigonometric.proofs.ConstantValues.{one-value, pi-value, two-over-pi-value, half-pi-high-value, half-pi-low-value}
 
 -- a product with a positive value keeps the sign

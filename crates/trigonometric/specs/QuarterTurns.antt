@@ -1,20 +1,12 @@
 -- 01, "Slips": "a sine at whole quarter turns not exactly ±1, which lets 1e300 into V". Here the sine is exactly 1 or −1.
-use mathlib.Core.Path.{_≡_, refl}
+use mathlib.Core.Path.{_≡_}
 use mathlib.Core.Bool.{cond}
 use Prim.Native.Nat.{_%_, _≤_}
 use lib.Dec.{eqb}
 use lib.IntN.{ℤ, natAbs}
-use lib.Ieee.{Float, neg, ofBits}
-use Rattle.floats.specs.Operations.{_⊕_, _⊗_, float, bits, decimal, f½, f1}
+use lib.Ieee.{Float, neg}
+use Rattle.floats.specs.Operations.{_⊕_, _⊗_, float, f½, f1, pi}
 use Rattle.trigonometric.specs.Trigonometric.{sin}
-
--- 3.141592653589793, the source's PI
-abbrev pub pi : Float
-pi = bits 0x4009_21fb_5444_2d18
-
-pub pi-is : pi ≡ decimal 3141592653589793 15
-unfolding decimal ofBits
-pi-is = refl
 
 -- the sine that the source's `vvsa` takes at the order va: `(-(va + 0.5) * PI).sin()`
 abbrev pub orderSine : Float → Float

@@ -7,7 +7,8 @@ use Prim.Native.Nat.{ℕ, zero, suc, _+_, _-_, _*_, _%_}
 use lib.IntN.{ℤ, pos, negsuc}
 use lib.Ieee.{Float, nan, lt, neg}
 use Rattle.floats.specs.Operations.{_⊖_, _⊗_, _⊘_, float, whole, f1}
-use Rattle.near.specs.Near.{near, downTo}
+use Rattle.floats.specs.Loops.{downTo}
+use Rattle.near.specs.Near.{near}
 use Rattle.trigonometric.specs.Constants.{twoOverPi, halfPiHigh, halfPiLow, angleEnd}
 
 -- "q = near(y·0.6366197723675814)", the quarter turns in y

@@ -1,4 +1,4 @@
--- A float as an i32: within the range it is what it is as an i64, and beyond an end of the range it is that end. Assumes nothing.
+-- A float as an i32: within the range it is what it is as an i64, and beyond an end of the range it is that end.
 use mathlib.Core.Path.{_≡_, refl, sym, subst, ap, _∙_}
 use mathlib.Core.Bool.{true, false, true≢false}
 use Prim.Native.Nat.{ℕ, _+_, _*_, _/_, _<_, _≤_, _^_, min}

@@ -1,4 +1,4 @@
--- What 01 says of the cut, as theorems about its definitions. Assumes nothing.
+-- What 01 says of the cut, as theorems about its definitions.
 use mathlib.Core.Path.{_≡_, refl}
 use mathlib.Core.Bool.{true, false}
 use lib.IntN.{pos, negsuc}

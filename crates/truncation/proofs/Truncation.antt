@@ -1,4 +1,4 @@
--- From 2 ^ (prec - 1) on every value of a format is whole, so adding 2 ^ 52 to a smaller size and taking it off again leaves a whole number next to the size. Assumes nothing.
+-- From 2 ^ (prec - 1) on every value of a format is whole, so adding 2 ^ 52 to a smaller size and taking it off again leaves a whole number next to the size.
 use mathlib.Core.Path.{_≡_, refl, sym, ap, _∙_, subst}
 use mathlib.Core.Logic.{inl, inr}
 use Prim.Native.Nat.{ℕ, suc, _+_, _-_, _*_, _/_, _^_, _≤_, _<_}

@@ -1,4 +1,4 @@
--- What the calls of each branch leave together: its value column. Assumes nothing.
+-- What the calls of each branch leave together: its value column.
 use mathlib.Core.Path.{_≡_, sym, ap, _∙_}
 use mathlib.Core.List.{List}
 use mathlib.Core.Bool.{true, false}
@@ -13,12 +13,12 @@ use Rattle.recurrence.specs.Recurrence.{nextRung}
 use Rattle.rungs.specs.Rungs.{startValue, startRungs, rung, descent, topRungs, downwardRung, seed, rawRung, scaledRung}
 use Rattle.rungs.specs.ColumnValues.{value, derivativeAt}
 use Rattle.rungs.proofs.Laws.{derivative-at, rungs-zero-one, rung-two, descent-top, descent-above, descent-on, downward-rung, raw-rung, scaled-rung}
-use Rattle.value_column.specs.Filled.{filled}
-use Rattle.value_column.specs.Slots.{slot, scaledBy, derivativeOver}
+use Rattle.slots.specs.Slots.{filled, slot}
+use Rattle.value_column.specs.OverSlots.{scaledBy, derivativeOver}
 use Rattle.value_column.specs.ValueColumn.{roomUpTo, allValues}
 use Rattle.value_column.specs.ValueColumn.Open.{allValues-is}
 use Rattle.value_column.proofs.Room.{room-up-to}
-use Rattle.value_column.proofs.Filled.{filled-one, filled-in, filled-on, filled-same, filled-over, filled-under, filled-before}
+use Rattle.slots.proofs.Filled.{filled-one, filled-in, filled-on, filled-same, filled-over, filled-under, filled-before}
 
 -- slot k of a column
 pub slot-filled : (value : ℕ → Float) (n : ℕ) (l : List Float) (k : ℕ) → k < n → n ≤ length l → slot (filled value 0 0 n l) k ≡ value k

@@ -1,4 +1,3 @@
-pub mod Filled
 pub mod Room
 pub mod Turns
 pub mod Branches

@@ -1,4 +1,4 @@
--- Whether a column has room, by the outcomes of the code's tests. Assumes nothing.
+-- Whether a column has room, by the outcomes of the code's tests.
 use mathlib.Core.Path.{_≡_, refl, sym, _∙_}
 use mathlib.Core.Bool.{Bool, true, false, _&&_, true≢false}
 use Prim.Native.Nat.{ℕ, _≤_, _<_}

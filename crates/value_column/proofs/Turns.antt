@@ -1,4 +1,4 @@
--- A turn of each loop, over plain variables: what it stores or carries on. Assumes nothing.
+-- A turn of each loop, over plain variables: what it stores or carries on.
 use mathlib.Core.Path.{_≡_, ap, _∙_}
 use mathlib.Core.List.{List}
 use mathlib.Core.Logic.{inr}
@@ -12,9 +12,9 @@ use Rattle.rungs.specs.declared.Sequence.{Sequence}
 use Rattle.recurrence.specs.Recurrence.{step, stepDown}
 use Rattle.rungs.specs.Rungs.{rung, descent}
 use Rattle.rungs.proofs.Laws.{rung-step, descent-step}
-use Rattle.value_column.specs.Filled.{filled}
-use Rattle.value_column.specs.Slots.{slot, scaledBy}
-use Rattle.value_column.proofs.Filled.{filled-more, filled-before, filled-out}
+use Rattle.slots.specs.Slots.{filled, slot}
+use Rattle.value_column.specs.OverSlots.{scaledBy}
+use Rattle.slots.proofs.Filled.{filled-more, filled-before, filled-out}
 
 -- ---- upward
 

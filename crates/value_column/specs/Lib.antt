@@ -1,3 +1,2 @@
-pub mod Filled
-pub mod Slots
+pub mod OverSlots
 pub mod ValueColumn

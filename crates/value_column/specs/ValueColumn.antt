@@ -7,7 +7,7 @@ use lib.ListN.{length}
 use lib.Ieee.{Float}
 use Rattle.rungs.specs.declared.Sequence.{Sequence}
 use Rattle.rungs.specs.ColumnValues.{value}
-use Rattle.value_column.specs.Filled.{filled}
+use Rattle.slots.specs.Slots.{filled}
 pub mod Open
 
 -- whether a column of this length holds the rungs 0 to n: n is 1 to 1000, as in every order, and there are n + 1 slots

@@ -4,7 +4,7 @@ ghost use mathlib.Core.Path.{_≡_};
 ghost use Prim.Native.Nat.{_+_, _-_, _≤_, _<_};
 ghost use lib.ListN.{length, set};
 ghost use Rattle.rungs.specs.Rungs.{rung};
-ghost use Rattle.value_column.specs.Filled.{filled};
+ghost use Rattle.slots.specs.Slots.{filled};
 use order::Rung;
 use rungs::Sequence;
 

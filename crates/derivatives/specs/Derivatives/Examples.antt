@@ -5,7 +5,7 @@ use mathlib.Core.List.{List, [], _∷_, map}
 use lib.Ieee.{Float, add, sub, mul, neg, ofBits, ofInt}
 use Rattle.floats.specs.Operations.{decimal, f0, f½, f1}
 use Rattle.signs.specs.Signs.{absolute}
-use Rattle.recurrence.specs.declared.Function.the-variants.{D, «V»}
+use Rattle.floats.specs.declared.Function.the-variants.{D, «V»}
 use Rattle.derivatives.specs.Derivatives.{derivative}
 
 -- a formula at its operands, and its value there

@@ -5,7 +5,7 @@ use mathlib.Core.Bool.{true, false}
 use lib.Ieee.{Float, neg}
 use Rattle.floats.specs.Operations.{_⊕_, _⊖_, _⊗_, whole, f½, f1}
 use Rattle.signs.specs.Signs.{absolute}
-use Rattle.recurrence.specs.declared.Function.the-variants.{D, «V»}
+use Rattle.floats.specs.declared.Function.the-variants.{D, «V»}
 use Rattle.derivatives.specs.Derivatives.{derivative}
 
 pub derivative-D-above : (x : Float) (f : Float) (k : ℕ) (low : Float) (high : Float) → derivative D false x f k low high ≡ f½ ⊗ x ⊗ low ⊖ high

@@ -1,8 +1,8 @@
 -- `expansion::d_expansion` meets its contract: the refusal's number decides, and an accepted request answers the pair.
 use mathlib.Core.Path.{sym, _∙_, ap}
 use mathlib.Core.Option.{some}
-use Rattle.refusals.specs.Answer.{refusalOf, pairOf}
-use Rattle.refusals.proofs.Laws.{refused, answered}
+use Rattle.answer.specs.Answer.{refusalOf, pairOf}
+use Rattle.answer.proofs.Laws.{refused, answered}
 use Rattle.expansion.specs.Expansion.Open.{answer-is, pair-is}
 use Rattle.expansion.proofs.d_expansion.Statement.{statement}
 use Rattle.expansion.proofs.d_expansion.Tie as tie

@@ -1,7 +1,7 @@
 -- `expansion::refusal` meets its contract: each return is the number that the tests on the way to it pick.
 use borrow.Author.Tests.{not-true, not-false}
 use lib.Ieee.{lt, le, neg}
-use Rattle.expansion.specs.Constants.{beyond, f20}
+use Rattle.expansion.specs.Constants.{orderLimit, f20}
 use Rattle.expansion.specs.Expansion.Open.{order-nan, argument-nan, order-below, order-above, argument-infinite, accepted}
 use Rattle.expansion.proofs.refusal.Statement.{statement}
 use Rattle.expansion.proofs.refusal.Tie as tie
@@ -19,7 +19,7 @@ refusal-spec =
     (λ c.
     let x = c .before in
     let v = x .before .before in
-    rw (order-below _ _ (rw (v .before .is-nan .ensures) at (v .if1 .left)) (rw (x .before .is-nan2 .ensures) at (x .if2 .left)) (not-true (lt (neg beyond) _) (c .if3 .taken))))
+    rw (order-below _ _ (rw (v .before .is-nan .ensures) at (v .if1 .left)) (rw (x .before .is-nan2 .ensures) at (x .if2 .left)) (not-true (lt (neg orderLimit) _) (c .if3 .taken))))
     (λ c.
     let b = c .before in
     let x = b .before in
@@ -27,7 +27,7 @@ refusal-spec =
     rw (order-above _ _
     (rw (v .before .is-nan .ensures) at (v .if1 .left))
     (rw (x .before .is-nan2 .ensures) at (x .if2 .left))
-    (not-false (lt (neg beyond) _) (b .if3 .left))
+    (not-false (lt (neg orderLimit) _) (b .if3 .left))
     (not-true (le _ (neg f20)) (c .if4 .taken))))
     (λ c κs. tt)
     (λ c.
@@ -38,7 +38,7 @@ refusal-spec =
     rw (argument-infinite _ _
     (rw (v .before .is-nan .ensures) at (v .if1 .left))
     (rw (x .before .is-nan2 .ensures) at (x .if2 .left))
-    (not-false (lt (neg beyond) _) (b .if3 .left))
+    (not-false (lt (neg orderLimit) _) (b .if3 .left))
     (not-false (le _ (neg f20)) (a .if4 .left))
     (rw (c .before .is-infinite .ensures) at (c .if5 .taken))))
     (λ c.
@@ -49,6 +49,6 @@ refusal-spec =
     rw (accepted _ _
     (rw (v .before .is-nan .ensures) at (v .if1 .left))
     (rw (x .before .is-nan2 .ensures) at (x .if2 .left))
-    (not-false (lt (neg beyond) _) (b .if3 .left))
+    (not-false (lt (neg orderLimit) _) (b .if3 .left))
     (not-false (le _ (neg f20)) (a .if4 .left))
     (rw (c .before .is-infinite .ensures) at (c .if5 .left)))))

@@ -5,10 +5,10 @@ use Prim.Native.Nat.{ℕ}
 use native.Mathlib.Omega.{arith}
 use lib.Ieee.{Float, isNan, lt, le, neg}
 use Rattle.signs.specs.Signs.{infinite}
-use Rattle.refusals.specs.Answer.{answerBy}
+use Rattle.answer.specs.Answer.{answerBy}
 use Rattle.mul_exp.specs.MulExp.{mulExp}
-use Rattle.elementary_expansion.specs.Mantissas.{mantissas}
-use Rattle.expansion.specs.Constants.{beyond, f20}
+use Rattle.expansion_elementary.specs.Mantissas.{mantissas}
+use Rattle.expansion.specs.Constants.{orderLimit, f20}
 use Rattle.expansion.specs.Expansion.{refusal, pairBy, answer}
 
 one-not-zero : _≡_ {A = ℕ} 1 0 → ⊥
@@ -34,19 +34,19 @@ module _ (v x : Float) where
   unfolding refusal
   argument-nan a b = rw (a, b)
 
-  pub order-below : isNan v ≡ false → isNan x ≡ false → lt (neg beyond) v ≡ false → refusal v x ≡ 4
+  pub order-below : isNan v ≡ false → isNan x ≡ false → lt (neg orderLimit) v ≡ false → refusal v x ≡ 4
   unfolding refusal
   order-below a b c = rw (a, b, c)
 
-  pub order-above : isNan v ≡ false → isNan x ≡ false → lt (neg beyond) v ≡ true → le v (neg f20) ≡ false → refusal v x ≡ 4
+  pub order-above : isNan v ≡ false → isNan x ≡ false → lt (neg orderLimit) v ≡ true → le v (neg f20) ≡ false → refusal v x ≡ 4
   unfolding refusal
   order-above a b c d = rw (a, b, c, d)
 
-  pub argument-infinite : isNan v ≡ false → isNan x ≡ false → lt (neg beyond) v ≡ true → le v (neg f20) ≡ true → infinite x ≡ true → refusal v x ≡ 5
+  pub argument-infinite : isNan v ≡ false → isNan x ≡ false → lt (neg orderLimit) v ≡ true → le v (neg f20) ≡ true → infinite x ≡ true → refusal v x ≡ 5
   unfolding refusal
   argument-infinite a b c d e = rw (a, b, c, d, e)
 
-  pub accepted : isNan v ≡ false → isNan x ≡ false → lt (neg beyond) v ≡ true → le v (neg f20) ≡ true → infinite x ≡ false → refusal v x ≡ 0
+  pub accepted : isNan v ≡ false → isNan x ≡ false → lt (neg orderLimit) v ≡ true → le v (neg f20) ≡ true → infinite x ≡ false → refusal v x ≡ 0
   unfolding refusal
   accepted a b c d e = rw (a, b, c, d, e)
 
@@ -61,6 +61,6 @@ module _ (v x : Float) where
       → _≡_ {A = Float × Float} (first, second) (pairBy (mantissas v x))
   pair-is value derivative exponent first second (a, (b, c)) (d, e) = rw (d, e, a, b, c)
 
-  pub in-range : refusal v x ≡ 0 → (lt (neg beyond) v ≡ true) × (le v (neg f20) ≡ true)
+  pub in-range : refusal v x ≡ 0 → (lt (neg orderLimit) v ≡ true) × (le v (neg f20) ≡ true)
   unfolding refusal
-  in-range h = both-pass (isNan v || isNan x) (lt (neg beyond) v) (le v (neg f20)) (infinite x) h
+  in-range h = both-pass (isNan v || isNan x) (lt (neg orderLimit) v) (le v (neg f20)) (infinite x) h

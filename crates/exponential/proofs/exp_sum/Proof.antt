@@ -3,8 +3,8 @@ use mathlib.Core.Path.{_≡_, sym}
 use Prim.Native.Nat.{_-_, _≤_}
 use native.Mathlib.Omega.{arith}
 use borrow.Author.Needs.{needs}
-use Rattle.near.specs.Near.{downTo}
-use Rattle.near.proofs.Countdown.{turns, ends}
+use Rattle.floats.specs.Loops.{downTo}
+use Rattle.floats.proofs.Countdown.{turns, ends}
 use Rattle.exponential.specs.Exponential.{expTerm, expSum}
 use Rattle.exponential.specs.Exponential.Open.{expSum-is}
 use Rattle.exponential.proofs.exp_sum.Statement.{statement}

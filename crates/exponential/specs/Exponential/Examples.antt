@@ -4,7 +4,8 @@ use mathlib.Core.Bool.{true, false}
 use mathlib.Core.List.{List, [], _∷_, map}
 use lib.Ieee.{Float, nan, inf, add, sub, mul, div, neg, lt, le, ne, ofBits, ofInt, toSigned}
 use Rattle.floats.specs.Operations.{bits, decimal, f0, f1}
-use Rattle.near.specs.Near.{near, downTo}
+use Rattle.floats.specs.Loops.{downTo}
+use Rattle.near.specs.Near.{near}
 use Rattle.exponential.specs.Exponential.{expSum, scaled, exp, exp2, expM1}
 
 -- a function at an argument, and its value there

@@ -5,9 +5,10 @@ use Prim.Native.Nat.{ℕ, _-_}
 use lib.IntN.{ℤ, pos, _-ℤ_}
 use lib.Signed.{quotZ}
 use lib.Ieee.{Float, inf, lt, le, ne, neg}
-use Rattle.floats.specs.Operations.{_⊖_, _⊗_, float, f0, f½, f1}
-use Rattle.near.specs.Near.{near, downTo}
-use Rattle.exponential.specs.Constants.{log2e, ln2, expHighest, expLowest, exp2Highest, exp2Lowest}
+use Rattle.floats.specs.Operations.{_⊖_, _⊗_, float, f0, f½, f1, ln2}
+use Rattle.floats.specs.Loops.{downTo}
+use Rattle.near.specs.Near.{near}
+use Rattle.exponential.specs.Constants.{log2e, expHighest, expLowest, exp2Highest, exp2Lowest}
 use Rattle.exponential.specs.Exponential.{expTerm, expSum, powerOfTwo, scaled, expRest, exp, exp2, expM1}
 
 pub expSum-is : (r : Float) (last : ℕ) → expSum r last ≡ downTo (expTerm r) last (17 - last) f1

@@ -6,14 +6,14 @@ use mathlib.Core.Bool.{false}
 use lib.ListN.{length}
 use lib.Ieee.{Float}
 use Rattle.floats.specs.Operations.{f0}
-use Rattle.recurrence.specs.declared.Function.the-variants.{D}
+use Rattle.floats.specs.declared.Function.the-variants.{D}
 use Rattle.recurrence.specs.Recurrence.{step}
 use Rattle.recurrence.specs.ThreeTerm.{continued}
 use Rattle.derivatives.specs.Derivatives.{derivative}
-use Rattle.value_column.specs.Filled.{filled}
+use Rattle.slots.specs.Slots.{filled}
 use Rattle.tables.specs.Tables.{sequenceOf, valueOf, derivativeOf}
-use Rattle.machine.specs.Machine.{Request, asked, Verdict, stays, goesOn, startsAt, effect, verdict}
-use Rattle.machine.specs.Held.{machineOf}
+use Rattle.ladder_machine.specs.Machine.{Request, asked, Verdict, stays, goesOn, startsAt, effect, verdict}
+use Rattle.ladder_machine.specs.Held.{machineOf}
 use Rattle.ladder.specs.declared.Ladder.{Ladder}
 use Rattle.ladder.specs.Ladder.{stateOf, sequenceIn, heldIn, emptyState, stateFor, carriedValue, carriedDerivative, climbedTo, pairFrom, givenOn, outcome, stateThen, valuesThen, derivativesThen, outcomeBy, requested}
 

@@ -5,7 +5,7 @@ use mathlib.Core.Bool.{true, false}
 use mathlib.Core.List.{List, [], _∷_, map}
 use lib.Ieee.{Float, nan, inf, add, sub, mul, div, neg, le, eq, ofBits, ofInt, size, span, climb}
 use Rattle.floats.specs.Operations.{bits, decimal, f0, f1}
-use Rattle.near.specs.Near.{downTo}
+use Rattle.floats.specs.Loops.{downTo}
 use Rattle.logarithm.specs.Logarithm.{lnSum, lnOfParts, ln, power}
 
 -- a function at an argument, and its value there

@@ -5,7 +5,7 @@ use Prim.Native.Nat.{ℕ, zero, suc, _-_}
 use lib.IntN.{ℤ, pos, negℤ, _+ℤ_}
 use lib.Ieee.{Float, nan, inf, fin, size, le, eq}
 use Rattle.floats.specs.Operations.{_⊗_, float, f0, f½, f1}
-use Rattle.near.specs.Near.{downTo}
+use Rattle.floats.specs.Loops.{downTo}
 use Rattle.exponential.specs.Exponential.{exp}
 use Rattle.logarithm.specs.Constants.{root2}
 use Rattle.logarithm.specs.Logarithm.{lnTerm, lnSum, lnNearOne, lnOfParts, ln, power}

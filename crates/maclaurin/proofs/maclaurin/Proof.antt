@@ -1,7 +1,7 @@
 -- `maclaurin::maclaurin` meets its contract: the refusal's number decides, and an accepted request answers the pair.
 use mathlib.Core.Path.{sym, _∙_}
-use Rattle.refusals.specs.Answer.{refusalOf, pairOf}
-use Rattle.refusals.proofs.Laws.{refused, answered}
+use Rattle.answer.specs.Answer.{refusalOf, pairOf}
+use Rattle.answer.proofs.Laws.{refused, answered}
 use Rattle.maclaurin.specs.Maclaurin.Open.{answer-is}
 use Rattle.maclaurin.proofs.maclaurin.Statement.{statement}
 use Rattle.maclaurin.proofs.maclaurin.Tie as tie

@@ -3,7 +3,7 @@ use mathlib.Core.Path.{_≡_, refl}
 use mathlib.Core.Bool.{true, false}
 use lib.Ieee.{Float, isNan}
 use Rattle.signs.specs.Signs.{infinite}
-use Rattle.refusals.specs.Answer.{answerBy}
+use Rattle.answer.specs.Answer.{answerBy}
 use Rattle.maclaurin_series.specs.Series.{pbMaclaurin}
 use Rattle.maclaurin.specs.Maclaurin.{anyInput, refusal, answer}
 

@@ -6,12 +6,12 @@ use Rattle.floats.specs.Operations.{_⊕_, _⊗_, f½}
 use Rattle.signs.specs.Signs.{absolute, signOf}
 use Rattle.exponential.specs.Exponential.{exp}
 use Rattle.logarithm.specs.Logarithm.{ln}
-use Rattle.mul_exp.specs.MulExp.{largest, twice, mulExp}
+use Rattle.mul_exp.specs.MulExp.{halvedLimit, twice, mulExp}
 
-pub beyond : (m e : Float) → lt largest (absolute e) ≡ true → mulExp m e ≡ signOf m ⊗ exp (ln (absolute m) ⊕ e)
+pub beyond : (m e : Float) → lt halvedLimit (absolute e) ≡ true → mulExp m e ≡ signOf m ⊗ exp (ln (absolute m) ⊕ e)
 unfolding mulExp
 beyond m e h = rw (h)
 
-pub within : (m e : Float) → lt largest (absolute e) ≡ false → mulExp m e ≡ twice m (exp (f½ ⊗ e))
+pub within : (m e : Float) → lt halvedLimit (absolute e) ≡ false → mulExp m e ≡ twice m (exp (f½ ⊗ e))
 unfolding mulExp
 within m e h = rw (h)

@@ -4,10 +4,9 @@ use Prim.Native.Nat.{ℕ}
 use mathlib.Core.Bool.{Bool, true, false, _&&_, cond}
 use lib.Dec.{eqb}
 use lib.Ieee.{Float, neg, eq}
-use Rattle.floats.specs.Operations.{_⊕_, _⊖_, _⊗_, _⊘_, whole, f0, f1}
-use Rattle.logarithm.specs.Constants.{f2}
-use Rattle.recurrence.specs.declared.Function.{Function}
-use Rattle.recurrence.specs.declared.Function.the-variants.{D, «V»}
+use Rattle.floats.specs.Operations.{_⊕_, _⊖_, _⊗_, _⊘_, whole, f0, f1, f2}
+use Rattle.floats.specs.declared.Function.{Function}
+use Rattle.floats.specs.declared.Function.the-variants.{D, «V»}
 use Rattle.recurrence.specs.Recurrence.{step, ownRungTwo, nextRung, stepDown}
 
 pub step-D-above : (x : Float) (f : Float) (k : ℕ) (low : Float) (high : Float) → step D false x f k low high ≡ x ⊗ high ⊖ (whole k ⊕ f ⊖ f1) ⊗ low

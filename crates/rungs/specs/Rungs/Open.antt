@@ -3,14 +3,13 @@ use mathlib.Core.Path.{_≡_, refl}
 use Prim.Native.Nat.{ℕ, _+_, _-_}
 use mathlib.Core.Bool.{Bool, true, false, cond}
 use lib.Ieee.{Float, neg, le, eq}
-use Rattle.floats.specs.Operations.{_⊕_, _⊖_, _⊗_, _⊘_, whole, f0, f1}
+use Rattle.floats.specs.Operations.{_⊕_, _⊖_, _⊗_, _⊘_, whole, f0, f1, f¼}
 use Rattle.signs.specs.Signs.{absolute}
 use Rattle.exponential.specs.Exponential.{exp}
-use Rattle.small_sums.specs.Constants.{quarter}
-use Rattle.start_sums.specs.Constants.{rootTwoOverPi}
-use Rattle.small_sums.specs.SmallSums.{dvsa, vvsa}
-use Rattle.start_sums.specs.StartSums.{dvla, vvla}
-use Rattle.recurrence.specs.declared.Function.the-variants.{D, «V»}
+use Rattle.start_sums_large.specs.Constants.{rootTwoOverPi}
+use Rattle.start_sums_small.specs.SmallSums.{dvsa, vvsa}
+use Rattle.start_sums_large.specs.StartSums.{dvla, vvla}
+use Rattle.floats.specs.declared.Function.the-variants.{D, «V»}
 use Rattle.recurrence.specs.Recurrence.{ownRungTwo, nextRung, stepDown}
 use Rattle.recurrence.specs.ThreeTerm.{continued}
 use Rattle.branches.specs.Constants.{f7·5}
@@ -48,11 +47,11 @@ pub startValue-is : (r : Sequence) (va : Float)
 unfolding startValue
 startValue-is r va = refl
 
-pub gaussian-is : (x : Float) → gaussian x ≡ exp (neg quarter ⊗ x ⊗ x)
+pub gaussian-is : (x : Float) → gaussian x ≡ exp (neg f¼ ⊗ x ⊗ x)
 unfolding gaussian
 gaussian-is x = refl
 
-pub growth-is : (x : Float) → growth x ≡ exp (quarter ⊗ x ⊗ x)
+pub growth-is : (x : Float) → growth x ≡ exp (f¼ ⊗ x ⊗ x)
 unfolding growth
 growth-is x = refl
 

@@ -3,8 +3,8 @@ use mathlib.Core.Path.{_≡_, refl}
 use Prim.Native.Nat.{_-_, _≤_}
 use native.Mathlib.Omega.{arith}
 use lib.ListN.{length, length-set}
-use Rattle.value_column.specs.Filled.{filled}
-use Rattle.value_column.specs.Slots.{derivativeOver}
+use Rattle.slots.specs.Slots.{filled}
+use Rattle.value_column.specs.OverSlots.{derivativeOver}
 use Rattle.table_columns.proofs.Tables.{derived-slot}
 use Rattle.table_columns.proofs.fill_derivatives.Statement.{statement}
 use Rattle.table_columns.proofs.fill_derivatives.Tie as tie

@@ -2,7 +2,7 @@
 use mathlib.Core.Path.{sym, _∙_}
 use native.Mathlib.Omega.{arith}
 use lib.ListN.{length-set}
-use Rattle.value_column.specs.Slots.{slot}
+use Rattle.slots.specs.Slots.{slot}
 use Rattle.table_columns.proofs.Room.{stored-two, not-the-first}
 use Rattle.table_columns.proofs.store_own_two.Statement.{statement}
 use Rattle.table_columns.proofs.store_own_two.Tie as tie

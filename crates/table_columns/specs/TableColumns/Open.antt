@@ -6,11 +6,11 @@ use lib.Dec.{eqb}
 use Prim.Native.Nat.{ℕ, _+_}
 use lib.ListN.{length}
 use lib.Ieee.{Float}
-use Rattle.recurrence.specs.declared.Function.{Function}
+use Rattle.floats.specs.declared.Function.{Function}
 use Rattle.rungs.specs.declared.Sequence.{Sequence}
 use Rattle.recurrence.specs.Recurrence.{ownRungTwo}
 use Rattle.rungs.specs.ColumnValues.{value, derivativeAt}
-use Rattle.value_column.specs.Filled.{filled}
+use Rattle.slots.specs.Slots.{filled}
 use Rattle.table_columns.specs.TableColumns.{roomIn, valuesIn, bothColumns}
 
 pub bothColumns-is : (r : Sequence) (u : Float) (n num : ℕ) (l : List Float)

@@ -1,8 +1,8 @@
 -- `tables::pair_at` meets its contract: what is read is what the definition names.
 use mathlib.Core.Path.{refl}
 use native.Mathlib.Omega.{arith}
-use Rattle.refusals.specs.Answer.{refusalOf, pairOf}
-use Rattle.value_column.specs.Slots.{slot}
+use Rattle.answer.specs.Answer.{refusalOf, pairOf}
+use Rattle.slots.specs.Slots.{slot}
 use Rattle.tables.proofs.pair_at.Statement.{statement}
 use Rattle.tables.proofs.pair_at.Tie as tie
 

@@ -10,7 +10,7 @@ use Rattle.order.specs.Order.{below, shifted, fractionOf, topRung, num}
 use Rattle.order.specs.Facts.{Split}
 use Rattle.order.proofs.Facts.{split-facts}
 use Rattle.order.proofs.Laws.{num-least}
-use Rattle.refusals.specs.Answer.{refusalOf, pairOf}
+use Rattle.answer.specs.Answer.{refusalOf, pairOf}
 use Rattle.tables.specs.Tables.{refusal}
 use Rattle.tables.proofs.Calls.{refusal-short, accepted, left-as-found, settled}
 use Rattle.tables.proofs.table.Statement.{statement}

@@ -7,12 +7,12 @@ use mathlib.Core.Bool.{cond}
 use lib.Dec.{eqb, ltb}
 use lib.ListN.{length}
 use lib.Ieee.{Float}
-use Rattle.refusals.specs.Answer.{answerBy}
+use Rattle.answer.specs.Answer.{answerBy}
 use Rattle.order.specs.Order.{below, shifted, fractionOf, topRung, num}
 use Rattle.table_refusals.specs.Refusals.{refusalBy}
-use Rattle.recurrence.specs.declared.Function.{Function}
+use Rattle.floats.specs.declared.Function.{Function}
 use Rattle.rungs.specs.ColumnValues.{value, derivativeAt}
-use Rattle.value_column.specs.Filled.{filled}
+use Rattle.slots.specs.Slots.{filled}
 use Rattle.table_columns.specs.TableColumns.{valuesIn}
 use Rattle.tables.specs.Tables.{refusal, sequenceOf, valueOf, derivativeOf, valuesWritten, tableAfter, answer}
 

@@ -4,7 +4,8 @@ use mathlib.Core.Bool.{true, false}
 use mathlib.Core.List.{List, [], _∷_, map}
 use lib.Ieee.{Float, nan, inf, add, sub, mul, div, neg, lt, le, ofBits, ofInt, toSigned}
 use Rattle.floats.specs.Operations.{bits, decimal, f0, f1}
-use Rattle.near.specs.Near.{near, downTo}
+use Rattle.floats.specs.Loops.{downTo}
+use Rattle.near.specs.Near.{near}
 use Rattle.trigonometric.specs.Trigonometric.{trigSum, sine, cosine, quadrant, sinIn, cosIn, sin, cos}
 
 -- a function at an argument, and its value there

@@ -4,7 +4,7 @@ use Prim.Native.Nat.{ℕ, _-_, _%_}
 use lib.IntN.{pos, negsuc}
 use lib.Ieee.{Float, neg}
 use Rattle.floats.specs.Operations.{_⊗_, f1}
-use Rattle.near.specs.Near.{downTo}
+use Rattle.floats.specs.Loops.{downTo}
 use Rattle.trigonometric.specs.Trigonometric.{quarters, angleRest, trigTerm, trigSum, sine, cosine, quadrant, byQuadrant, sinIn, cosIn, angleOrNan, sin, cos}
 
 pub trigSum-is : (less : ℕ) (z : Float) → trigSum less z ≡ downTo (trigTerm less z) 1 9 f1

@@ -7,7 +7,7 @@ use lib.ListN.{length}
 use lib.Ieee.{Float}
 use Rattle.rungs.specs.declared.Sequence.{Sequence}
 use Rattle.rungs.specs.ColumnValues.{value}
-use Rattle.value_column.specs.Filled.{filled}
+use Rattle.slots.specs.Slots.{filled}
 use Rattle.value_column.specs.ValueColumn.{roomUpTo, allValues}
 
 pub allValues-is : (r : Sequence) (u : Float) (n : ℕ) (l : List Float)

@@ -1,7 +1,7 @@
 -- `gozhnerim::answers::flat` meets its contract: each arm is the definitions' clause.
 use borrow.Author.Needs.{needs}
 use lib.Ieee.{div, ofBits}
-use Rattle.refusals.specs.Answer.{refusalOf, pairOf}
+use Rattle.answer.specs.Answer.{refusalOf, pairOf}
 use Rattle.gozhnerim.specs.Answers.{pairOrNan, answerOf}
 use Rattle.gozhnerim.proofs.answers.flat.Statement.{statement}
 use Rattle.gozhnerim.proofs.answers.flat.Tie as tie

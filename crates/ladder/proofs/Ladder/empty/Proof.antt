@@ -1,6 +1,6 @@
 -- `ladder::Ladder::empty` meets its contract: the definition's fields, and so n is 0.
 use mathlib.Core.Path.{ap, sym, _∙_}
-use Rattle.machine.proofs.Laws.{no-rung-held}
+use Rattle.ladder_machine.proofs.Laws.{no-rung-held}
 use Rattle.ladder.specs.declared.Ladder.{Ladder}
 use Rattle.ladder.specs.Ladder.{stateOf, heldIn}
 use Rattle.ladder.specs.Ladder.Open.{emptyState-is}

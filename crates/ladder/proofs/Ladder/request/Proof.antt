@@ -2,8 +2,8 @@
 use mathlib.Core.Path.{_≡_, subst}
 use native.Mathlib.Omega.{arith}
 use lib.ListN.{length}
-use Rattle.machine.specs.Machine.{asks, asked, verdict}
-use Rattle.machine.specs.Held.{machineOf, verdictOf}
+use Rattle.ladder_machine.specs.Machine.{asks, asked, verdict}
+use Rattle.ladder_machine.specs.Held.{machineOf, verdictOf}
 use Rattle.ladder.specs.Ladder.{heldIn, givenBy, Outcome, outcome}
 use Rattle.ladder.proofs.Outcomes.{judged}
 use Rattle.ladder.proofs.Ladder.request.Statement.{statement}

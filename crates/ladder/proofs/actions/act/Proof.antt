@@ -7,8 +7,8 @@ use lib.Dec.{T}
 use lib.ListN.{length}
 use lib.Ieee.{binary64, fits}
 use Rattle.order.specs.Order.{topRung}
-use Rattle.machine.specs.Machine.{asks, refusal, refuses, repeats, climbs, startsOver}
-use Rattle.machine.specs.Held.{verdictOf}
+use Rattle.ladder_machine.specs.Machine.{asks, refusal, refuses, repeats, climbs, startsOver}
+use Rattle.ladder_machine.specs.Held.{verdictOf}
 use Rattle.ladder.proofs.Outcomes.{repeat-held, climb-room, start-room, refused-outcome, repeated-outcome, climbed-outcome, started-outcome, climbed-n, state-n}
 use Rattle.ladder.proofs.actions.act.Statement.{statement}
 use Rattle.ladder.proofs.actions.act.Tie as tie

@@ -1,6 +1,6 @@
 -- `ladder::actions::answer` meets its contract: the pair is the state's.
 use native.Mathlib.Omega.{arith}
-use Rattle.refusals.specs.Answer.{refusalOf, pairOf}
+use Rattle.answer.specs.Answer.{refusalOf, pairOf}
 use Rattle.ladder.specs.Ladder.{writtenOf, givenBy, answered}
 use Rattle.ladder.specs.Ladder.Open.{pairFrom-is}
 use Rattle.ladder.proofs.actions.answer.Statement.{statement}

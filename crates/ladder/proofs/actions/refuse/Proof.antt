@@ -1,7 +1,7 @@
 -- `ladder::actions::refuse` meets its contract: the parts of a refusal's reply.
-use Rattle.refusals.specs.Answer.{refusalOf, pairOf}
-use Rattle.machine.specs.Machine.{refusedBy, effect}
-use Rattle.machine.proofs.Laws.{refuses-count}
+use Rattle.answer.specs.Answer.{refusalOf, pairOf}
+use Rattle.ladder_machine.specs.Machine.{refusedBy, effect}
+use Rattle.ladder_machine.proofs.Laws.{refuses-count}
 use Rattle.ladder.specs.Ladder.{writtenOf, givenBy, pairThen, givenOn}
 use Rattle.ladder.proofs.actions.refuse.Statement.{statement}
 use Rattle.ladder.proofs.actions.refuse.Tie as tie

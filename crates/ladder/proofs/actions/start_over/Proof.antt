@@ -6,8 +6,8 @@ use borrow.Author.Needs.{needs}
 use lib.Dec.{T}
 use lib.ListN.{length}
 use lib.Ieee.{binary64, fits}
-use Rattle.value_column.specs.Slots.{slot}
-use Rattle.machine.specs.Machine.{asks}
+use Rattle.slots.specs.Slots.{slot}
+use Rattle.ladder_machine.specs.Machine.{asks}
 use Rattle.ladder.proofs.Starts.{order-room, started-values, started-derivatives, started-state}
 use Rattle.ladder.proofs.actions.start_over.Statement.{statement}
 use Rattle.ladder.proofs.actions.start_over.Tie as tie

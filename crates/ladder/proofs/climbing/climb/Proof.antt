@@ -4,7 +4,7 @@ use Prim.Native.Nat.{_+_, _-_, _≤_}
 use native.Mathlib.Nat.{sub-self}
 use native.Mathlib.Omega.{arith}
 use lib.ListN.{length, length-set}
-use Rattle.value_column.specs.Filled.{filled}
+use Rattle.slots.specs.Slots.{filled}
 use Rattle.ladder.specs.Ladder.{carriedValue, carriedDerivative}
 use Rattle.ladder.proofs.Climbs.{carried-low, carried-high, next-low, next-high, next-value, next-derivative, climbed}
 use Rattle.ladder.proofs.climbing.climb.Statement.{statement}

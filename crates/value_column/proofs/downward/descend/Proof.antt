@@ -6,7 +6,7 @@ use native.Mathlib.Omega.{arith}
 use lib.ListN.{length, length-set}
 use Rattle.rungs.specs.Rungs.{descent}
 use Rattle.rungs.proofs.Laws.{descent-top, descent-above}
-use Rattle.value_column.specs.Filled.{filled}
+use Rattle.slots.specs.Slots.{filled}
 use Rattle.value_column.proofs.Turns.{lowered-turn, lowered-slot}
 use Rattle.value_column.proofs.downward.descend.Statement.{statement}
 use Rattle.value_column.proofs.downward.descend.Tie as tie

@@ -3,8 +3,8 @@ use mathlib.Core.Path.{_≡_, refl}
 use Prim.Native.Nat.{_-_, _≤_}
 use native.Mathlib.Omega.{arith}
 use lib.ListN.{length, length-set}
-use Rattle.value_column.specs.Filled.{filled}
-use Rattle.value_column.specs.Slots.{scaledBy}
+use Rattle.slots.specs.Slots.{filled}
+use Rattle.value_column.specs.OverSlots.{scaledBy}
 use Rattle.value_column.proofs.Turns.{scaled-slot}
 use Rattle.value_column.proofs.downward.scale.Statement.{statement}
 use Rattle.value_column.proofs.downward.scale.Tie as tie

@@ -1,6 +1,6 @@
 -- `value_column::downward::scaled` meets its contract: the rungs down from n are raw ones, and each is scaled by what rung 0 has to be.
 use native.Mathlib.Omega.{arith}
-use Rattle.value_column.specs.Slots.{slot}
+use Rattle.slots.specs.Slots.{slot}
 use Rattle.value_column.proofs.Branches.{all-scaled}
 use Rattle.value_column.proofs.downward.scaled.Statement.{statement}
 use Rattle.value_column.proofs.downward.scaled.Tie as tie

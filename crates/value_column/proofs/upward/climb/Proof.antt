@@ -4,7 +4,7 @@ use Prim.Native.Nat.{_+_, _-_, _≤_}
 use native.Mathlib.Omega.{arith}
 use lib.ListN.{length, length-set}
 use Rattle.rungs.specs.Rungs.{rung}
-use Rattle.value_column.specs.Filled.{filled}
+use Rattle.slots.specs.Slots.{filled}
 use Rattle.value_column.proofs.Turns.{climbed, climbed-slot}
 use Rattle.value_column.proofs.upward.climb.Statement.{statement}
 use Rattle.value_column.proofs.upward.climb.Tie as tie

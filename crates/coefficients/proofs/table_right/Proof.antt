@@ -1,7 +1,0 @@
--- `coefficients::table_right` meets its contract, by the theorem.
-use Rattle.coefficients.proofs.Rule.{table-right}
-use Rattle.coefficients.proofs.table_right.Statement.{statement}
-use Rattle.coefficients.proofs.table_right.Tie as tie
-
-pub table-right-spec : {M : Type 1} → statement M
-table-right-spec = tie.close (tie.spec (λ c. table-right))

@@ -1,0 +1,22 @@
+-- `answers::replayed::is_alike` meets its contract: the callees' results, in the order of the code.
+use mathlib.Core.Path.{_∙_}
+use Rattle.stored_answers.specs.Answers.{held}
+use Rattle.stored_answers.proofs.replayed.is_alike.Statement.{statement}
+use Rattle.stored_answers.proofs.replayed.is_alike.Tie as tie
+
+pub is-alike-spec : {M : Type 1} → statement M
+unfolding held
+is-alike-spec =
+    tie.close
+    (tie.spec
+    (λ c κs. tt)
+    (λ c κs. tt)
+    (λ c κs. tt)
+    (λ c κs. tt)
+    (λ c κs. tt)
+    (λ c κs. tt)
+    (λ c.
+    let a = c .before .before in
+    let n = a .before .before .before in
+    c .alike .ensures
+    ∙ rw (a .answer-of .ensures, n .word .ensures, a .before .before .number .ensures, a .before .number2 .ensures, c .before .number3 .ensures)))

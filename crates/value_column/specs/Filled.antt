@@ -1,9 +1,0 @@
--- A stretch of slots written in a list: the form of every exit list. Its laws are in proofs/Filled.antt.
-use mathlib.Core.List.{List}
-use Prim.Native.Nat.{ℕ, zero, suc, _+_}
-use lib.ListN.{set}
-
--- l with value from, value (from + 1), .. at the slots at, at + 1, .., n of them, and every other slot as it was
-unfoldable pub filled : {A : Type 0} → (ℕ → A) → ℕ → ℕ → ℕ → List A → List A
-filled value from at zero l = l
-filled value from at (suc n) l = set (filled value from at n l) (at + n) (value (from + n))

@@ -24,7 +24,7 @@ library() {
     fi
 }
 GOZHNERIM_LIBRARY=$(library gozhnerim "${GOZHNERIM_LIBRARY:-}")
-GOZHNERIM_KERNELS=$(library compared "${GOZHNERIM_KERNELS:-}")
+GOZHNERIM_KERNELS=$(library compare_exports "${GOZHNERIM_KERNELS:-}")
 
 export GOZHNERIM_SOURCE GOZHNERIM_LIBRARY GOZHNERIM_KERNELS
 export CARGO_TARGET_DIR=$root/target/compare

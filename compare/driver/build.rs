@@ -7,7 +7,7 @@ use std::path::Path;
 /// below it.
 const LIBRARIES: [(&str, &str); 2] = [
     ("GOZHNERIM_LIBRARY", "libgozhnerim.a"),
-    ("GOZHNERIM_KERNELS", "libcompared.a"),
+    ("GOZHNERIM_KERNELS", "libcompare_exports.a"),
 ];
 
 fn main() {

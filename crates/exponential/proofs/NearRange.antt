@@ -10,6 +10,7 @@ use lib.Signed.{mag}
 use lib.Ieee.{Float, nan, inf, fin, up, down, neg, lt, le, eq, ne, ofBits}
 use lib.Ieee.Exact.{HasValue}
 use Rattle.floats.specs.Operations.{_⊗_}
+use Rattle.floats.proofs.Booleans.{neither}
 use Rattle.floats.proofs.Bounds.{mul-between}
 use Rattle.near.specs.Near.{near}
 use Rattle.near.proofs.NearRange.{AtMost, at-most, near-at-most}
@@ -43,10 +44,6 @@ exp-exponent y p q r = go (exp-kept y p q r)
 
 -- ---- exp2
 
-or-false : (a b : Bool) → (a || b) ≡ false → a ≡ false
-or-false true b p = p
-or-false false b p = refl
-
 exp2-kept : (y : Float) → ne y y ≡ false → le exp2Highest y ≡ false → lt y (neg exp2Lowest) ≡ false → AtMost y 1080
 unfolding ne le lt neg ofBits
 exp2-kept nan p q r = absurd (subst T p tt)
@@ -54,7 +51,7 @@ exp2-kept (inf true) p q r = absurd (subst T r tt)
 exp2-kept (inf false) p q r = absurd (subst T q tt)
 exp2-kept (fin true m e) p q r = let k = ltb-false (1080 * down e) (m * up e * 1) r in at-most true m e 1080 (omega arith)
 exp2-kept (fin false m e) p q r =
-    let k = ltb-false (1024 * down e) (m * up e * 1) (or-false (lt exp2Highest (fin false m e)) (eq exp2Highest (fin false m e)) q) in
+    let k = ltb-false (1024 * down e) (m * up e * 1) (neither q .0) in
     at-most false m e 1080 (omega arith)
 
 pub exp2-exponent : (y : Float) → ne y y ≡ false → le exp2Highest y ≡ false → lt y (neg exp2Lowest) ≡ false → mag (near y) ≤ 1081

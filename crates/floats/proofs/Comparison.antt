@@ -11,7 +11,8 @@ use lib.Ieee.{Float, nan, inf, fin, Format, up, down, lt, le, eq, below, level, 
 use lib.Ieee.Fits.{eq→eqb, and-i, down-pos, and-l, and-r}
 use lib.Ieee.Exact.{HasValue}
 use Rattle.floats.specs.Facts.{SignedLe}
-use Rattle.floats.proofs.Tests.{same-test, lt-or-ge, or-split, or-l, or-r, le-of-tests, ltb-same, eqb-same, add-scale, scale-l, scale-r}
+use Rattle.floats.proofs.Booleans.{same-test, or-split, or-l, or-r}
+use Rattle.floats.proofs.Tests.{lt-or-ge, le-of-tests, ltb-same, eqb-same, add-scale, scale-l, scale-r}
 use Rattle.floats.proofs.Values.{value-unique, rescale, fin-value}
 
 -- ---- a comparison, over one denominator

@@ -1,3 +1,4 @@
+pub mod Booleans
 pub mod Tests
 pub mod Values
 pub mod Arithmetic

@@ -12,7 +12,8 @@ use lib.Ieee.Exact.{HasValue, round-exact}
 use lib.Ieee.Scale.{overflow}
 use lib.Arith.{mod-mul}
 use Rattle.floats.specs.Facts.{signedInt}
-use Rattle.floats.proofs.Tests.{same-test, lt-or-ge}
+use Rattle.floats.proofs.Booleans.{same-test}
+use Rattle.floats.proofs.Tests.{lt-or-ge}
 use Rattle.floats.proofs.Values.{value-finite, cross, rescale, ofInt-value}
 use Rattle.floats.proofs.Arithmetic.{add-at, sub-at, sum-minus}
 use Rattle.floats.proofs.Rounding.{on-grid, round-back}

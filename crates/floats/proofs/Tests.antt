@@ -6,15 +6,10 @@ use native.Mathlib.Nat.{zero-lt-suc, le-of-eq, le-of-lt, mul-comm, mul-assoc, mu
 use mathlib.Core.Bool.{Bool, true, false, not, _&&_, _||_}
 use lib.Dec.{T, ltb, eqb, ltb→lt, lt→ltb, nltb→le, eqb→eq}
 use lib.Ieee.Fits.{eq→eqb, and-l}
+use Rattle.floats.proofs.Booleans.{same-test, or-split}
 
 pub one : 0 < 1
 one = zero-lt-suc 0
-
-pub same-test : (a b : Bool) → (T a → T b) → (T b → T a) → a ≡ b
-same-test true true p q = refl
-same-test true false p q = absurd (p tt)
-same-test false true p q = absurd (q tt)
-same-test false false p q = refl
 
 pub lt-or-ge : (a b : ℕ) → (a < b) ⊎ (b ≤ a)
 lt-or-ge a b = go (ltb a b) (ltb→lt a b) (nltb→le a b)
@@ -22,18 +17,6 @@ lt-or-ge a b = go (ltb a b) (ltb→lt a b) (nltb→le a b)
     go : (x : Bool) → (T x → a < b) → (T (not x) → b ≤ a) → (a < b) ⊎ (b ≤ a)
     go true p q = inl (p tt)
     go false p q = inr (q tt)
-
-pub or-split : (a b : Bool) → T (a || b) → T a ⊎ T b
-or-split true b t = inl tt
-or-split false b t = inr t
-
-pub or-l : (a b : Bool) → T a → T (a || b)
-or-l true b t = tt
-or-l false b t = absurd t
-
-pub or-r : (a b : Bool) → T b → T (a || b)
-or-r true b t = tt
-or-r false b t = t
 
 pub le-of-tests : (a b : ℕ) → T (ltb a b || (eqb a b && true)) → a ≤ b
 le-of-tests a b t = elim (or-split (ltb a b) (eqb a b && true) t) [ inl u ↦ le-of-lt (ltb→lt a b u) | inr u ↦ le-of-eq (eqb→eq a b (and-l (eqb a b) true u)) ]

@@ -12,7 +12,8 @@ use lib.Ieee.Exact.{HasValue}
 use lib.Ieee.Bits.{is-true}
 use Rattle.floats.proofs.Values.{ofInt-pos}
 use Rattle.floats.proofs.Arithmetic.{add-at, sub-at, sum-plus, sum-minus, mul-at}
-use Rattle.floats.proofs.Tests.{one, same-test, le-of-tests}
+use Rattle.floats.proofs.Booleans.{same-test}
+use Rattle.floats.proofs.Tests.{one, le-of-tests}
 use Rattle.floats.proofs.Comparison.{lt-at, le-at, test-of-signedLe}
 use Rattle.floats.proofs.Rounding.{round-back}
 

@@ -17,7 +17,7 @@ use Rattle.slots.proofs.Filled.{filled-more, filled-same}
 use Rattle.value_column.proofs.Branches.{all-values, over-values}
 use Rattle.ladder_columns.specs.Columns.{roomFor, valueColumn, derivativeColumn}
 use Rattle.ladder_columns.specs.Columns.Open.{valueColumn-is, derivativeColumn-is}
-use Rattle.ladder_columns.proofs.Room.{room-facts}
+use Rattle.ladder_columns.proofs.Room.{columns-room}
 
 -- ---- a derivative, over the values of another table
 
@@ -40,7 +40,7 @@ module _ (r : Sequence) (u : Float) (n : ℕ) (l : List Float) where
       → d1 ≡ filled (derivativeOver r l1) 0 0 n d
       → (l1 ≡ valueColumn r u n l (length d)) × (d1 ≡ derivativeColumn r u n (length l) d)
   columns-filled l1 d d1 room e e2 =
-      let w = room-facts n (length l) (length d) room in
+      let w = columns-room n (length l) (length d) room in
       let e1 = e ∙ all-values r u n l (w .0) (w .1) (w .2) in (
         rw (valueColumn-is r u n l (length d), room) e1,
         rw (derivativeColumn-is r u n (length l) d, room) (derivative-column l1 d d1 (w .2) e1 e2),

@@ -2,17 +2,18 @@
 use mathlib.Core.List.{List}
 use Prim.Native.Nat.{ℕ, _+_}
 use mathlib.Core.Bool.{Bool, _&&_, cond}
-use lib.Dec.{ltb, leb}
+use lib.Dec.{leb}
 use lib.ListN.{length}
 use lib.Ieee.{Float}
 use Rattle.rungs.specs.declared.Sequence.{Sequence}
 use Rattle.rungs.specs.ColumnValues.{value, derivativeAt}
 use Rattle.slots.specs.Slots.{filled}
+use Rattle.value_column.specs.ValueColumn.{roomUpTo}
 pub mod Open
 
--- whether columns of these lengths hold the rungs 0 to n: n is 1 to 1000, as in every order, and there are n + 1 values and n derivatives
+-- whether columns of these lengths hold the rungs 0 to n: there are n + 1 values and n derivatives
 unfoldable pub roomFor : ℕ → ℕ → ℕ → Bool
-roomFor n values derivatives = leb 1 n && leb n 1000 && ltb n values && leb n derivatives
+roomFor n values derivatives = roomUpTo n values && leb n derivatives
 
 -- values 0 to n and derivatives 0 to n − 1 in columns that have room for both, and else nothing
 pub valueColumn : Sequence → Float → ℕ → List Float → ℕ → List Float

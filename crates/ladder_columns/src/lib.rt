@@ -36,17 +36,10 @@ fn fill_derivatives_over(values: &[f64], derivatives: &mut [f64], sequence: Sequ
 fn has_room(n: Rung, values: usize, derivatives: usize) -> bool
     ensures { λ r. ⌜ r ≡ roomFor n values derivatives ⌝ }
 {
-    if n < 1 {
-        return false;
+    if value_column::has_room(n, values) {
+        return n as usize <= derivatives;
     }
-    if n > 1000 {
-        return false;
-    }
-    let top = n as usize;
-    if values <= top {
-        return false;
-    }
-    top <= derivatives
+    false
 }
 
 // Stores values 0 to n in one table and derivatives 0 to n - 1 in another. Where a table is too short, or n is not 1 to 1000, nothing is stored.

@@ -11,6 +11,7 @@ use lib.Dec.{T, eqb, leb, ltb}
 use lib.Ieee.{Float, binary64, fits, isNan, le, ofBits}
 use lib.Ieee.Bits.{ofBits-toBits}
 use Rattle.floats.specs.Operations.{_⊕_, bits, whole, f1}
+use Rattle.floats.proofs.Booleans.{both, neither}
 use Rattle.signs.specs.Signs.{absolute}
 use Rattle.order.specs.Order.{tooLarge, below, fractionOf, topRung}
 use Rattle.floats.specs.declared.Function.{Function}
@@ -29,16 +30,12 @@ module _ (h : Held) where
   -- a state that does not count as empty
   pub not-empty : countsEmpty h ≡ false → (1 ≤ h .n) × (h .n ≤ 1000) × (isNan (h .x) ≡ false) × (isNan (h .f) ≡ false) × (le f1 (absolute (h .f)) ≡ false)
   not-empty e =
-      let p = none-of (eqb (h .n) 0) (ltb 1000 (h .n)) (isNan (h .x)) (isNan (h .f)) (le f1 (absolute (h .f))) (sym (countsEmpty-is h) ∙ e) in
-      (some (h .n) (p .0), ltb-false 1000 (h .n) (p .1), p .2, p .3, p .4)
+      let p = neither (sym (countsEmpty-is h) ∙ e) in
+      let q = neither (p .0) in
+      let r = neither (q .0) in
+      let s = neither (r .0) in
+      (some (h .n) (s .0), ltb-false 1000 (h .n) (s .1), r .1, q .1, p .1)
     where
-      none-of : (a b c d g : Bool) → (a || b || c || d || g) ≡ false → (a ≡ false) × (b ≡ false) × (c ≡ false) × (d ≡ false) × (g ≡ false)
-      none-of false false false false g e = (refl, refl, refl, refl, e)
-      none-of false false false true g e = absurd (true≢false e)
-      none-of false false true d g e = absurd (true≢false e)
-      none-of false true c d g e = absurd (true≢false e)
-      none-of true b c d g e = absurd (true≢false e)
-
       some : (n : ℕ) → eqb n 0 ≡ false → 1 ≤ n
       some zero e = absurd (eqb-false 0 0 e refl)
       some (suc n) e = omega arith
@@ -77,21 +74,11 @@ module _ (q : Request) (values derivatives : ℕ) where
   accepted e =
       let n = topRung (q .v) in
       let p = accepted-by (q .v) (q .x) (tooShort n values derivatives) (sym (refusal-is q values derivatives) ∙ e) in
-      let r = neither (ltb values (n + 1)) (ltb derivatives n) (sym (tooShort-is n values derivatives) ∙ p .3) in
+      let r = neither (sym (tooShort-is n values derivatives) ∙ p .3) in
       let room = ltb-false values (n + 1) (r .0) in
       (p .0, p .1, p .2, omega arith, ltb-false derivatives n (r .1))
-    where
-      neither : (a b : Bool) → (a || b) ≡ false → (a ≡ false) × (b ≡ false)
-      neither false false e = (refl, refl)
-      neither false true e = absurd (true≢false e)
-      neither true b e = absurd (true≢false e)
 
 -- ---- the same function, side, argument and fraction
-
-both : (a b : Bool) → (a && b) ≡ true → (a ≡ true) × (b ≡ true)
-both true true e = (refl, refl)
-both true false e = absurd (true≢false (sym e))
-both false b e = absurd (true≢false (sym e))
 
 same-function : (a b : Function) → sameFunction a b ≡ true → a ≡ b
 same-function D D e = refl
@@ -112,9 +99,9 @@ same-float a b p q e = sym (ofBits-toBits binary64 a p) ∙ ap (ofBits binary64)
 module _ (fn : Function) (s : Bool) (x f : ℕ) (fn' : Function) (s' : Bool) (x' f' : ℕ) where
   pub same-record : sameRungs fn s x f fn' s' x' f' ≡ true → (fn ≡ fn') × (s ≡ s') × (x ≡ x') × (f ≡ f')
   same-record e =
-      let a = both (sameFunction fn fn' && Bool·beq s s' && eqb x x') (eqb f f') (sym (sameRungs-is fn s x f fn' s' x' f') ∙ e) in
-      let b = both (sameFunction fn fn' && Bool·beq s s') (eqb x x') (a .0) in
-      let c = both (sameFunction fn fn') (Bool·beq s s') (b .0) in
+      let a = both (sym (sameRungs-is fn s x f fn' s' x' f') ∙ e) in
+      let b = both (a .0) in
+      let c = both (b .0) in
       (same-function fn fn' (c .0), same-side s s' (c .1), eqb-true x x' (b .1), eqb-true f f' (a .1))
 
 -- ... and as numbers
@@ -199,8 +186,8 @@ pub climb-parts : (fn : Function) (s : Bool) (x f : Float) (m n : ℕ) → mayCl
     → (m < n) × (2 ≤ m) × (T (fits binary64 x) → T (fits binary64 f) → runsForward fn s x (whole m ⊕ f) ≡ true)
 climb-parts fn s x f m n e =
     let u = runsForward fn s (bits (bitsOf x)) (whole m ⊕ bits (bitsOf f)) in
-    let a = both (ltb m n && leb 2 m) u (sym (mayClimb-is fn s (bitsOf x) (bitsOf f) m n) ∙ e) in
-    let b = both (ltb m n) (leb 2 m) (a .0) in
+    let a = both (sym (mayClimb-is fn s (bitsOf x) (bitsOf f) m n) ∙ e) in
+    let b = both (a .0) in
     (ltb-true m n (b .0), leb-true 2 m (b .1), λ p q. rw (bitsOf-is x, bitsOf-is f, ofBits-toBits binary64 x p, ofBits-toBits binary64 f q) at (a .1))
 
 -- ---- the written counts

@@ -9,6 +9,7 @@ ghost use Rattle.ladder_machine.specs.Held.{machineOf, verdictOf};
 use cases::case_of;
 use floats::Function;
 use order::Rung;
+use order::Size;
 
 // A ladder's fields, its two values left out.
 pub struct Held {
@@ -28,7 +29,7 @@ pub enum Judgement {
 }
 
 // Whether a value table or a derivative table of these lengths is too short for rungs 0 to n.
-fn too_short(n: Rung, values: usize, derivatives: usize) -> bool
+fn too_short(n: Size, values: usize, derivatives: usize) -> bool
     ensures { λ r. ⌜ r ≡ tooShort n values derivatives ⌝ }
 {
     let top = n as usize;

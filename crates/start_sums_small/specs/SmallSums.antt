@@ -74,6 +74,11 @@ vvsaTurn x va sv m (r₀, fac₀, pv₀) =
     let pv = pv₀ ⊕ gw ⊗ r ⊗ gm in
     (lt (absolute (r ⊗ gm ⊘ pv)) seriesEpsilon, (r, fac, pv))
 
+-- the first term: "pv = (sv + 1.0) * g1". At whole orders from 0 on g1 is gamma2's answer at a pole where va is even, and sv + 1 is 0 there
+-- (proofs/Poles.antt, `first-pole-term`).
+abbrev pub vvsaFirst : Float → Float
+vvsaFirst va = (orderSine va ⊕ f1) ⊗ gamma2 (neg f½ ⊗ va)
+
 -- r, fac and pv after "for m in 1..=250"
 unfoldable pub vvsaSum : Float → Float → Float → Float → Float × Float × Float
 vvsaSum x va sv pv = countUp (vvsaTurn x va sv) 250 1 (false, (f1, f1, pv))
@@ -82,8 +87,6 @@ vvsaSum x va sv pv = countUp (vvsaTurn x va sv) 250 1 (false, (f1, f1, pv))
 abbrev pub vvsaFactor : Float → Float → Float
 vvsaFactor x va = exp2 (neg f½ ⊗ va) ⊗ ep x ⊘ tau
 
--- "sv = (-(va + 0.5) * PI).sin()", "pv = (sv + 1.0) * g1", "pv *= a0"
+-- "sv = (-(va + 0.5) * PI).sin()", "pv *= a0"
 pub vvsa : Float → Float → Float
-vvsa x va =
-    let sv = orderSine va in
-    cond (eq x f0) (vvsaAtZero va) (vvsaSum x va sv ((sv ⊕ f1) ⊗ gamma2 (neg f½ ⊗ va)) .2 ⊗ vvsaFactor x va)
+vvsa x va = cond (eq x f0) (vvsaAtZero va) (vvsaSum x va (orderSine va) (vvsaFirst va) .2 ⊗ vvsaFactor x va)

@@ -40,6 +40,6 @@ withJunk l = filled junk 0 0 (length l) l
 -- number n at order v and argument x: the call, the place and the number of slots are its digits
 unfoldable pub tablesAnswer : ℕ → Float → Float → Float
 tablesAnswer n v x =
-    cond (leb (n / 65536) 41)
-    (placeAfter (cond (eqb (n % 256) 24) D «V») (n / 256 % 256) v x (withJunk (take (n / 65536) (replicate 41 f0))))
+    cond (leb (n / 65536) 63)
+    (placeAfter (cond (eqb (n % 256) 24) D «V») (n / 256 % 256) v x (withJunk (take (n / 65536) (replicate 63 f0))))
     nan

@@ -90,9 +90,9 @@ fn place_after_junk(t: &mut [f64], function: Function, place: u64, v: f64, x: f6
 pub fn answer_of(n: u64, v: f64, x: f64) -> f64
     ensures { λ r. ⌜ r ≡ tablesAnswer n v x ⌝ }
 {
-    let mut t = [0.0; 41];
+    let mut t = [0.0; 63];
     let slots = (n / 65536) as usize;
-    if slots > 41 {
+    if slots > 63 {
         return 0.0 / 0.0;
     }
     let place = n / 256 % 256;

@@ -1,46 +1,40 @@
 -- Whether a table has room, by the outcomes of the code's tests.
-use mathlib.Core.Path.{_≡_, sym, _∙_}
+use mathlib.Core.Path.{_≡_}
 use mathlib.Core.List.{List}
 use mathlib.Core.Bool.{Bool, true, false, _&&_, cond}
 use Prim.Native.Nat.{ℕ, _*_, _≤_, _<_}
-use borrow.Author.Tests.{lt-ltb, le-ltb, le-leb, lt-leb, leb-true, ltb-true, eq-eqb, ne-eqb}
-use lib.Dec.{eqb, leb, ltb}
+use borrow.Author.Tests.{le-leb, lt-leb, leb-true, eq-eqb, ne-eqb}
+use lib.Dec.{eqb, leb}
 use lib.Ieee.{Float}
-use Rattle.value_column.proofs.Room.{both}
+use Rattle.floats.proofs.Booleans.{both}
+use Rattle.value_column.specs.ValueColumn.{roomUpTo}
+use Rattle.value_column.proofs.Room.{room-up-to, room-facts}
 use Rattle.table_columns.specs.TableColumns.{roomIn}
 
 module _ (n num slots : ℕ) where
-  pub no-rung-in : n < 1 → false ≡ roomIn n num slots
+  pub no-column : roomUpTo n num ≡ false → false ≡ roomIn n num slots
   unfolding roomIn
-  no-rung-in h = rw (lt-leb 1 n h)
+  no-column e = rw e
 
-  pub too-many-in : 1 ≤ n → 1000 < n → false ≡ roomIn n num slots
+  pub no-three : roomUpTo n num ≡ true → num < 3 → false ≡ roomIn n num slots
   unfolding roomIn
-  too-many-in h g = rw (le-leb 1 n h, lt-leb n 1000 g)
+  no-three e t = rw (e, lt-leb 3 num t)
 
-  pub no-gap : 1 ≤ n → n ≤ 1000 → num ≤ n → false ≡ roomIn n num slots
+  pub by-slots : roomUpTo n num ≡ true → 3 ≤ num → leb (2 * num) slots ≡ roomIn n num slots
   unfolding roomIn
-  no-gap h g a = rw (le-leb 1 n h, le-leb n 1000 g, le-ltb n num a)
-
-  pub no-three : 1 ≤ n → n ≤ 1000 → n < num → num < 3 → false ≡ roomIn n num slots
-  unfolding roomIn
-  no-three h g a t = rw (le-leb 1 n h, le-leb n 1000 g, lt-ltb n num a, lt-leb 3 num t)
-
-  pub by-slots : 1 ≤ n → n ≤ 1000 → n < num → 3 ≤ num → leb (2 * num) slots ≡ roomIn n num slots
-  unfolding roomIn
-  by-slots h g a t = rw (le-leb 1 n h, le-leb n 1000 g, lt-ltb n num a, le-leb 3 num t)
+  by-slots e t = rw (e, le-leb 3 num t)
 
   pub room-in : 1 ≤ n → n ≤ 1000 → n < num → 3 ≤ num → 2 * num ≤ slots → roomIn n num slots ≡ true
-  room-in h g a t s = sym (by-slots h g a t) ∙ le-leb (2 * num) slots s
-
-  pub room-in-facts : roomIn n num slots ≡ true → (1 ≤ n) × (n ≤ 1000) × (n < num) × (3 ≤ num) × (2 * num ≤ slots)
   unfolding roomIn
-  room-in-facts e =
-      let p = both (leb 1 n && leb n 1000 && ltb n num && leb 3 num) (leb (2 * num) slots) e in
-      let q = both (leb 1 n && leb n 1000 && ltb n num) (leb 3 num) (p .0) in
-      let r = both (leb 1 n && leb n 1000) (ltb n num) (q .0) in
-      let s = both (leb 1 n) (leb n 1000) (r .0) in
-      (leb-true 1 n (s .0), leb-true n 1000 (s .1), ltb-true n num (r .1), leb-true 3 num (q .1), leb-true (2 * num) slots (p .1))
+  room-in h g a t s = rw (room-up-to n num h g a, le-leb 3 num t, le-leb (2 * num) slots s)
+
+  pub table-room : roomIn n num slots ≡ true → (1 ≤ n) × (n ≤ 1000) × (n < num) × (3 ≤ num) × (2 * num ≤ slots)
+  unfolding roomIn
+  table-room e =
+      let p = both e in
+      let q = both (p .0) in
+      let s = room-facts n num (q .0) in
+      (s .0, s .1, s .2, leb-true 3 num (q .1), leb-true (2 * num) slots (p .1))
 
 -- ---- whether value 2 is stored: own says whether it has its own formula, t is the table with it and l the one without
 

@@ -26,7 +26,7 @@ use Rattle.slots.proofs.Filled.{filled-more, filled-same, filled-out}
 use Rattle.value_column.proofs.Branches.{slot-filled, all-values}
 use Rattle.table_columns.specs.TableColumns.{roomIn, valuesIn, bothColumns}
 use Rattle.table_columns.specs.TableColumns.Open.{bothColumns-is, valuesIn-is}
-use Rattle.table_columns.proofs.Room.{room-in-facts}
+use Rattle.table_columns.proofs.Room.{table-room}
 
 module _ (r : Sequence) where
   -- over the values in the same table, which are below slot num
@@ -97,7 +97,7 @@ module _ (r : Sequence) (u : Float) (n num : ℕ) (l : List Float) where
       let v = value r u n in
       let c = valuesIn (r .function) (r .below) (r .f) n in
       let many = values-in (r .function) (r .below) (r .f) n in
-      let w = room-in-facts n num (length l) room in
+      let w = table-room n num (length l) room in
       let values : l2 ≡ filled v 0 0 c l = e2 ∙ with-own-two r u n l l1 (omega (arith, w)) (e1 ∙ all-values r u n l (w .0) (w .1) (omega (arith, w))) in
       let at : (k : ℕ) → k ≤ n → slot l2 k ≡ v k = λ k h. rw values (slot-filled v c l k (omega (arith, many)) (omega (arith, many, w))) in
       let each : (k : ℕ) → k < n → derivativeOver r l2 (0 + k) ≡ derivativeAt r u n (0 + k) =

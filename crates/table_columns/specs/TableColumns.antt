@@ -2,7 +2,7 @@
 use mathlib.Core.List.{List}
 use Prim.Native.Nat.{ℕ, _+_, _*_}
 use mathlib.Core.Bool.{Bool, _&&_, cond}
-use lib.Dec.{eqb, ltb, leb}
+use lib.Dec.{eqb, leb}
 use lib.ListN.{length}
 use lib.Ieee.{Float}
 use Rattle.floats.specs.declared.Function.{Function}
@@ -10,11 +10,12 @@ use Rattle.rungs.specs.declared.Sequence.{Sequence}
 use Rattle.recurrence.specs.Recurrence.{ownRungTwo}
 use Rattle.rungs.specs.ColumnValues.{value, derivativeAt}
 use Rattle.slots.specs.Slots.{filled}
+use Rattle.value_column.specs.ValueColumn.{roomUpTo}
 pub mod Open
 
 -- whether a table holds both columns of num slots each, with room for value 2, which V has also at n = 1
 unfoldable pub roomIn : ℕ → ℕ → ℕ → Bool
-roomIn n num slots = leb 1 n && leb n 1000 && ltb n num && leb 3 num && leb (2 * num) slots
+roomIn n num slots = roomUpTo n num && leb 3 num && leb (2 * num) slots
 
 -- how many values are written: 0 to n; V with v < 0, f = 0 and n = 1 has value 2 as well
 pub valuesIn : Function → Bool → Float → ℕ → ℕ

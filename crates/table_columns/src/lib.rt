@@ -54,19 +54,13 @@ fn store_own_two(t: &mut [f64], sequence: Sequence, n: Rung)
 fn has_table_room(n: Rung, num: Rung, slots: usize) -> bool
     ensures { λ r. ⌜ r ≡ roomIn n num slots ⌝ }
 {
-    if n < 1 {
-        return false;
+    if value_column::has_room(n, num as usize) {
+        if num < 3 {
+            return false;
+        }
+        return 2 * num as usize <= slots;
     }
-    if n > 1000 {
-        return false;
-    }
-    if num <= n {
-        return false;
-    }
-    if num < 3 {
-        return false;
-    }
-    2 * num as usize <= slots
+    false
 }
 
 // Stores values from slot 0 on, value 2 with its own formula too, and derivatives from slot num on, in one table. Where it is too short for num slots to

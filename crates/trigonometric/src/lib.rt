@@ -12,7 +12,7 @@ fn quadrant(q: i32) -> u32
     (q & 3) as u32
 }
 
-// y less q quarter turns. The product with the high part is exact.
+// y less q quarter turns. The product with the high part, of 31 digits, is exact up to 2^22 quarter turns.
 fn angle_rest(y: f64, q: i32) -> f64
     ensures { λ r. ⌜ r ≡ angleRest y q ⌝ }
 {

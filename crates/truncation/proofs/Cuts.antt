@@ -12,7 +12,8 @@ use lib.Ieee.{Float, nan, inf, fin, up, down, lt, le, eq, ne, toSigned}
 use lib.Ieee.Exact.{HasValue}
 use lib.Ieee.Fits.{down-pos}
 use lib.Ieee.Compare.{differs-from-itself}
-use Rattle.floats.proofs.Tests.{one, or-l}
+use Rattle.floats.proofs.Booleans.{or-l}
+use Rattle.floats.proofs.Tests.{one}
 use Rattle.floats.proofs.Values.{toSigned-at}
 
 under : (a d n : ℕ) → 0 < d → ltb (a * 1) (n * d) ≡ true → a / d < n

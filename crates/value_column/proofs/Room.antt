@@ -1,16 +1,11 @@
--- Whether a column has room, by the outcomes of the code's tests.
-use mathlib.Core.Path.{_≡_, refl, sym, _∙_}
-use mathlib.Core.Bool.{Bool, true, false, _&&_, true≢false}
+-- Whether a column has room, by the outcomes of the code's tests. The crates above add their own tests to it.
+use mathlib.Core.Path.{_≡_, sym, _∙_}
+use mathlib.Core.Bool.{true, false}
 use Prim.Native.Nat.{ℕ, _≤_, _<_}
 use borrow.Author.Tests.{lt-ltb, le-leb, lt-leb, leb-true, ltb-true}
-use lib.Dec.{leb, ltb}
+use lib.Dec.{ltb}
+use Rattle.floats.proofs.Booleans.{both}
 use Rattle.value_column.specs.ValueColumn.{roomUpTo}
-
--- two tests of a conjunction
-pub both : (a b : Bool) → (a && b) ≡ true → (a ≡ true) × (b ≡ true)
-both true true e = (refl, refl)
-both true false e = absurd (true≢false (sym e))
-both false b e = absurd (true≢false (sym e))
 
 module _ (n slots : ℕ) where
   pub no-rung : n < 1 → false ≡ roomUpTo n slots
@@ -31,6 +26,6 @@ module _ (n slots : ℕ) where
   pub room-facts : roomUpTo n slots ≡ true → (1 ≤ n) × (n ≤ 1000) × (n < slots)
   unfolding roomUpTo
   room-facts e =
-      let q = both (leb 1 n && leb n 1000) (ltb n slots) e in
-      let r = both (leb 1 n) (leb n 1000) (q .0) in
+      let q = both e in
+      let r = both (q .0) in
       (leb-true 1 n (r .0), leb-true n 1000 (r .1), ltb-true n slots (q .1))

@@ -12,8 +12,8 @@ use order::Rung;
 use rungs::Sequence;
 use upward::forward;
 
-// Whether a column of this length holds rungs 0 to n.
-fn has_room(n: Rung, slots: usize) -> bool
+// Whether a column of this length holds rungs 0 to n, and n is 1 to 1000, as of every order.
+pub fn has_room(n: Rung, slots: usize) -> bool
     ensures { λ r. ⌜ r ≡ roomUpTo n slots ⌝ }
 {
     if n < 1 {

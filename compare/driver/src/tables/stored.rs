@@ -6,14 +6,15 @@ use super::edges;
 use super::outcome::Expected;
 use super::requests::drawn;
 use super::split::needed;
-use super::{CALLS, Call};
+use super::{CALLS, Call, Kind};
 use crate::inputs::{Input, pairs};
 use crate::store::{Record, SEED, add_new, answer_bits, sampled};
 
 /// An order, an argument and the length of the table.
 type Row = (f64, f64, usize);
 
-/// Slots of the longest table stored.
+/// Slots of the longest table stored, but for those of `LARGE_AT_LIMIT`, which have 62. The places
+/// of slots end at 63.
 const SLOTS: usize = 41;
 
 /// The places of a request's records. Those of the table's slots are the slots' numbers.
@@ -79,6 +80,11 @@ const BRANCH_ARGUMENTS: [f64; 8] = [1.0, 2.0, 3.0, 8.0, 12.0, -1.0, -8.0, -12.0]
 /// Orders that need 40 slots, answered by other branches than those of `ORDERS`.
 const LARGE: [Input; 4] = [(17.5, 8.0), (17.0, 12.0), (-17.5, 3.0), (-17.0, 12.0)];
 
+/// Orders at the sizes of arguments from which the other start sum is taken, and at the next floats.
+const AT_LIMIT: [f64; 3] = [0.5, -0.5, -1.0];
+/// Of V too, where its branches part at that size: the shifted order is above half its square.
+const LARGE_AT_LIMIT: f64 = 28.0;
+
 /// Requests that are refused whatever the length.
 const REFUSED: [Input; 14] = [
     (f64::NAN, 0.0),
@@ -142,6 +148,7 @@ fn records_of(call: &Call, (v, x, length): Row) -> Vec<Record> {
 /// twice.
 fn rows(call: &Call) -> Vec<Row> {
     let mut rows = limits();
+    rows.extend(at_limit(call.kind));
     for share in SHARES {
         let is_in = |&(v, _, _): &Row| share.slots.contains(&needed(v));
         let edges: Vec<Row> = edges().into_iter().filter(is_in).collect();
@@ -170,6 +177,18 @@ fn limits() -> Vec<Row> {
     rows.extend(LONGER.map(|v| (v, 1.0, SLOTS)));
     rows.extend(MUCH_LONGER.map(|v| (v, 1.0, FOUND.len())));
     rows
+}
+
+/// The largest arguments with the start sum for small ones, and the next floats, of both signs.
+fn at_limit(kind: Kind) -> Vec<Row> {
+    let (limit, orders) = match kind {
+        Kind::D => (5.8_f64, AT_LIMIT.to_vec()),
+        Kind::V => (7.5, [&AT_LIMIT[..], &[LARGE_AT_LIMIT]].concat()),
+    };
+    let sizes = [limit, limit.next_up()];
+    let arguments = sizes.map(|size| [size, -size]).concat();
+    let rows = pairs(&orders, &arguments).into_iter();
+    rows.map(|(v, x)| (v, x, needed(v))).collect()
 }
 
 /// Edge orders with edge arguments; every fifth table is too short.

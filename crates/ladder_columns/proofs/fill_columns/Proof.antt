@@ -4,7 +4,7 @@ use mathlib.Core.Bool.{true}
 use native.Mathlib.Omega.{arith}
 use lib.ListN.{length}
 use Rattle.ladder_columns.specs.Columns.{roomFor}
-use Rattle.ladder_columns.proofs.Room.{room-facts}
+use Rattle.ladder_columns.proofs.Room.{columns-room}
 use Rattle.ladder_columns.proofs.Columns.{columns-filled, columns-left}
 use Rattle.ladder_columns.proofs.fill_columns.Statement.{statement}
 use Rattle.ladder_columns.proofs.fill_columns.Tie as tie
@@ -15,7 +15,7 @@ room c = sym (c .before .has-room .ensures) ∙ c .if1 .taken
 fill-derivatives-over-requires : tie.Need-fill-derivatives-over-requires
 fill-derivatives-over-requires c κs =
     let values = c .before .before .before .before in
-    let w = room-facts _ _ _ (room (values .before .before)) in
+    let w = columns-room _ _ _ (room (values .before .before)) in
     (rw (values .fill-values .kept .0) (w .2), w .3)
 
 returns : tie.Need-returns

@@ -2,10 +2,10 @@
 use mathlib.Core.Path.{_≡_}
 use mathlib.Core.Bool.{true, false}
 use lib.Ieee.{Float, eq, neg}
-use Rattle.floats.specs.Operations.{_⊕_, _⊗_, f0, f½, f1}
+use Rattle.floats.specs.Operations.{_⊗_, f0, f½}
 use Rattle.trigonometric.specs.QuarterTurns.{orderSine}
 use Rattle.gamma.specs.Gamma.{gamma2}
-use Rattle.start_sums_small.specs.SmallSums.{ep, dvsaAtZero, dvsaSum, dvsaFactor, dvsa, vvsaAtZero, vvsaSum, vvsaFactor, vvsa}
+use Rattle.start_sums_small.specs.SmallSums.{ep, dvsaAtZero, dvsaSum, dvsaFactor, dvsa, vvsaAtZero, vvsaFirst, vvsaSum, vvsaFactor, vvsa}
 
 -- ---- dvsa
 
@@ -27,7 +27,6 @@ pub vvsa-at-zero : (x va : Float) → eq x f0 ≡ true → vvsa x va ≡ vvsaAtZ
 unfolding vvsa
 vvsa-at-zero x va a = rw a
 
-pub vvsa-series : (x va : Float) → eq x f0 ≡ false →
-    vvsa x va ≡ vvsaSum x va (orderSine va) ((orderSine va ⊕ f1) ⊗ gamma2 (neg f½ ⊗ va)) .2 ⊗ vvsaFactor x va
+pub vvsa-series : (x va : Float) → eq x f0 ≡ false → vvsa x va ≡ vvsaSum x va (orderSine va) (vvsaFirst va) .2 ⊗ vvsaFactor x va
 unfolding vvsa
 vvsa-series x va a = rw a

@@ -4,7 +4,7 @@ use mathlib.Core.Bool.{true}
 use native.Mathlib.Omega.{arith}
 use lib.ListN.{length}
 use Rattle.table_columns.specs.TableColumns.{roomIn}
-use Rattle.table_columns.proofs.Room.{room-in-facts}
+use Rattle.table_columns.proofs.Room.{table-room}
 use Rattle.table_columns.proofs.Tables.{both-left, both-columns}
 use Rattle.table_columns.proofs.fill_table.Statement.{statement}
 use Rattle.table_columns.proofs.fill_table.Tie as tie
@@ -15,13 +15,13 @@ room c = sym (c .before .has-table-room .ensures) ∙ c .if1 .taken
 store-own-two-requires : tie.Need-store-own-two-requires
 store-own-two-requires c κs =
     let values = c .before .before .before in
-    omega (arith, values .fill-values .kept .0, room-in-facts _ _ _ (room (values .before .before)))
+    omega (arith, values .fill-values .kept .0, table-room _ _ _ (room (values .before .before)))
 
 fill-derivatives-requires : tie.Need-fill-derivatives-requires
 fill-derivatives-requires c κs =
     let two = c .before .before .before in
     let values = two .before .before .before .before in
-    let w = room-in-facts _ _ _ (room (values .before .before)) in
+    let w = table-room _ _ _ (room (values .before .before)) in
     (w .2, omega (arith, two .store-own-two .kept .0, values .fill-values .kept .0, w))
 
 returns : tie.Need-returns

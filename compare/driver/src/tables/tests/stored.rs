@@ -2,6 +2,8 @@
 
 use std::collections::{HashMap, HashSet};
 
+use source::entry::{dvla, dvsa, vvla, vvsa};
+
 use super::{D, V, branches};
 use crate::LAYERS;
 use crate::store::Record;
@@ -21,6 +23,9 @@ const FOUND: [u64; 7] = [
     0x0000_0000_0000_0001,
     0xfe37_e43c_8800_759c,
 ];
+
+/// A start sum.
+type Sum = fn(f64, f64) -> f64;
 
 /// A request that is stored, with the places and answers of its records.
 struct Stored {
@@ -92,7 +97,11 @@ fn each_request_stands_once_with_all_its_places() {
         let mut keys = HashSet::new();
         for stored in requests(call) {
             let Stored { v, x, length, .. } = stored;
-            assert!(length <= 41, "{}", stored.show());
+            assert!(
+                length <= 41 || v == 28.0 && length == 62,
+                "{}",
+                stored.show()
+            );
             let slots = 0..length as u64;
             let places: Vec<u64> = [64, 65, 66].into_iter().chain(slots).collect();
             assert_eq!(stored.places, places, "{}", stored.show());
@@ -107,7 +116,7 @@ fn no_record_stands_twice_and_the_file_is_short() {
     let records = all_records();
     let different: HashSet<_> = records.iter().map(|record| &record[..3]).collect();
     assert_eq!(different.len(), records.len());
-    assert!((6000..=8500).contains(&records.len()), "{}", records.len());
+    assert!((6000..=9000).contains(&records.len()), "{}", records.len());
 }
 
 #[test]
@@ -117,10 +126,14 @@ fn all_branches_are_stored() {
         for stored in requests(call) {
             *counts.entry(stored.branch(call)).or_insert(0) += 1;
         }
-        let mut expected = branches::all(call.kind);
-        expected.retain(|name| !branches::ABOVE_ORDER_27.contains(name));
+        let expected = branches::all(call.kind);
         for name in expected {
-            let often = counts.get(name).is_some_and(|&count| count >= 5);
+            let least = if branches::ABOVE_ORDER_27.contains(&name) {
+                1
+            } else {
+                5
+            };
+            let often = counts.get(name).is_some_and(|&count| count >= least);
             assert!(often, "{} {name} {counts:?}", call.name);
         }
     }
@@ -146,6 +159,38 @@ fn tables_around_the_length_needed_are_stored() {
         }
         assert!(is_stored(18.0, 41) && is_stored(-18.0, 41));
     }
+}
+
+/// Value `k` of a stored request with the order v and the argument x.
+#[track_caller]
+fn value(call: &Call, v: f64, x: f64, k: usize) -> f64 {
+    let is_it = |stored: &Stored| stored.v == v && stored.x == x && stored.is_accepted();
+    let stored = requests(call).into_iter().find(is_it);
+    f64::from_bits(stored.expect("it is stored").slots()[k])
+}
+
+#[test]
+fn a_less_in_place_of_a_less_or_equal_is_seen() {
+    // the start sums, with the fraction of each order; the scaled branch rounds its value 0 twice more
+    let is_nearer = |call: &Call, (v, f): (f64, f64), x: f64, small: Sum, large: Sum| {
+        let stored = value(call, v, x, 0);
+        (stored - small(x, f)).abs() < (stored - large(x, f)).abs()
+    };
+    for order in [(0.5, 0.5), (-0.5, -0.5)] {
+        assert!(is_nearer(D, order, 5.8, dvsa, dvla), "{order:?}");
+        assert!(is_nearer(D, order, -5.8, dvsa, dvla), "{order:?}");
+    }
+    for order in [(-0.5, -0.5), (-1.0, 0.0)] {
+        assert!(is_nearer(V, order, 7.5, vvsa, vvla), "{order:?}");
+        assert!(is_nearer(V, order, -7.5, vvsa, vvla), "{order:?}");
+    }
+    assert!(is_nearer(V, (28.0, 0.0), -7.5, vvsa, vvla));
+    // V at 7.5 runs downward and not upward
+    let (mut low, mut high) = (vvsa(7.5, 0.0), vvsa(7.5, 1.0));
+    for k in 2..=29 {
+        (low, high) = (high, (7.5 * high - low) / f64::from(k));
+    }
+    assert_ne!(value(V, 28.0, 7.5, 29), high);
 }
 
 #[test]

@@ -28,10 +28,10 @@ answer-of-spec =
     (tie.spec
     returns
     (λ c. omega arith)
-    (λ c. sym (length-take-le _ (replicate 41 f0) (c .before .before .if1 .left)))
+    (λ c. sym (length-take-le _ (replicate 63 f0) (c .before .before .if1 .left)))
     (λ c κs. tt)
     returns-2
     (λ c. omega arith)
-    (λ c. sym (length-take-le _ (replicate 41 f0) (c .before .before .if1 .left)))
+    (λ c. sym (length-take-le _ (replicate 63 f0) (c .before .before .if1 .left)))
     (λ c κs. tt)
     returns-3)

@@ -1,4 +1,4 @@
--- 01, "Bottom rungs": dvla and vvla (src/xsf/par_cyl.rs); dvsa and vvsa are small_sums'. Each step is one rounded operation, left to right. In DLMF's words D
+-- 01, "Bottom rungs": dvla and vvla (src/xsf/par_cyl.rs); dvsa and vvsa are of `start_sums_small`. Each step is one rounded operation, left to right. In DLMF's words D
 -- of the order v is U(a, x) and V of the order v is V(a, x), with a = −v − 1/2 (DLMF 12.1).
 -- The definitions of the two are shut: other crates cannot unfold them. What they may know of them are the contracts.
 pub mod Open

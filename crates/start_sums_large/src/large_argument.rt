@@ -1,4 +1,14 @@
-// dvla and vvla: D and V by their expansions for large arguments. At a negative argument each needs the other at the positive one.
+// dvla and vvla: D and V of the order va at a large argument x, by their expansions there. Each answers every f64.
+//
+// Method (DLMF 12.9.1 and 12.9.2), over k = 0 to 16 for D and to 18 for V,
+//     D:  |x|^va e^(-x²/4) · Σ (-1)^k (-va)(1 - va)..(2k - 1 - va) / (k! (2x²)^k)
+//     V:  √(2/π) |x|^(-va - 1) e^(x²/4) · Σ (va + 1)(va + 2)..(va + 2k) / (k! (2x²)^k)
+// A sum stops after a term below 1e-12 of it. At x < 0, with P and Q the same expansions of D and V (12.2.15, 12.2.16),
+//     D:  π vvla(-x, va) / Γ(-va) + cos(π va) P
+//     V:  sin²(π va) Γ(-va) / π · dvla(-x, va) - cos(π va) Q
+// so that each needs the other at -x. Γ is gamma2, which answers 1e300 at poles.
+//
+// Tables take dvla beyond a size of x of 5.8 and vvla beyond 7.5.
 
 ghost use mathlib.Core.Path.{_≡_};
 ghost use Rattle.start_sums_large.specs.StartSums.{dvlaSum, dvlaExpansion, dvlaJoined, dvla, vvlaSum, vvlaExpansion, vvlaJoined, vvla};

@@ -1,4 +1,15 @@
-// dvsa and vvsa: D and V by their series at 0, of at most 250 terms. Each answers every f64.
+// dvsa and vvsa: D and V of the order va at a small argument x, by their series at 0. Each answers every f64.
+//
+// Method (DLMF 12.4.1 and 12.4.2, with the values at 0, 12.2.6 to 12.2.9). With t(m) = (√2 x)^m / m!, over m = 0 to 250,
+//     D:  2^(-va/2 - 1) e^(-x²/4) / Γ(-va) · Σ (-1)^m Γ((m - va)/2) t(m)
+//     V:  2^(-va/2) e^(-x²/4) / (2π) · Σ (1 + (-1)^m sin(-(va + 1/2) π)) Γ((m - va)/2) t(m)
+// A sum stops after a term below 1e-15 of it; V's test leaves the weight 1 ± sin out.
+//     x = 0:  D is √π / (2^(-va/2) Γ((1 - va)/2)), and 0 where that Γ has a pole;
+//             V is 2^(-va/2) sin((1 + va/2) π) / Γ(1 + va/2), and 0 where va is 0 or that Γ has a pole
+//     va = 0: D is e^(-x²/4)
+// Γ is gamma2, which answers 1e300 at poles: at whole orders the weight of such a term of V is exactly 0.
+//
+// Tables take dvsa up to a size of x of 5.8 and vvsa up to 7.5, and vvsa for the top rungs of V up to 10.
 
 ghost use mathlib.Core.Path.{_≡_};
 ghost use Rattle.start_sums_small.specs.SmallSums.{isPole, dvsaAtZero, dvsaSum, dvsa, vvsaAtZero, vvsaSum, vvsa};

@@ -21,9 +21,10 @@ use Rattle.ladder_lists.specs.Demand3.{ask, fed, says, Number, Long, tabledValu
 use Rattle.ladder_lists.proofs.Held.{table-answer}
 use Rattle.ladder_lists.proofs.Turns.{known-request}
 use Rattle.ladder_lists.proofs.Lists.{demand3}
-use Rattle.gozhnerim.specs.declared.ladders.GozhnerimLadder.{GozhnerimLadder}
-use Rattle.gozhnerim.specs.Answers.{pairOrNan}
-use Rattle.gozhnerim.specs.Ladders.{functionOf, ladderBy, ladderIn, ladderOut, handedBack, countOf, replyOf, requestedInC}
+use Rattle.gozhnerim_structs.specs.declared.GozhnerimLadder.{GozhnerimLadder}
+use Rattle.gozhnerim_structs.specs.Answers.{pairOrNan}
+use Rattle.gozhnerim_structs.specs.Ladders.{functionOf, ladderBy, ladderIn, ladderOut, handedBack, countOf, replyOf}
+use Rattle.gozhnerim.specs.Ladders.{requestedInC}
 use Rattle.gozhnerim.specs.Lists.{stateInC, answeredInC, begunWith, saysInC, ClimbedInC, StateRightInC}
 use Rattle.gozhnerim.proofs.Lists.{nothing-held, same-number, begun-is, handed-on}
 

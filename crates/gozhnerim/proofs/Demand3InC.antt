@@ -8,8 +8,8 @@ use Rattle.ladder.specs.declared.Ladder.{Ladder}
 use Rattle.ladder.specs.Ladder.{heldIn}
 use Rattle.ladder_lists.specs.Demand3.{Call, Numbers, Long, ListRight}
 use Rattle.ladder_lists.proofs.Lists.{demand3}
-use Rattle.gozhnerim.specs.declared.ladders.GozhnerimLadder.{GozhnerimLadder}
-use Rattle.gozhnerim.specs.Ladders.{ladderIn}
+use Rattle.gozhnerim_structs.specs.declared.GozhnerimLadder.{GozhnerimLadder}
+use Rattle.gozhnerim_structs.specs.Ladders.{ladderIn}
 use Rattle.gozhnerim.specs.Lists.{callsInC, lastInC, begunWith, ListRightInC, Demand3InC}
 use Rattle.gozhnerim.proofs.Lists.{allInC, begun-is, begun-empty, all-due, turns-in-c, last-in-c, lent-in-c}
 use Rattle.gozhnerim.proofs.AnyState.{state-right-in-c}

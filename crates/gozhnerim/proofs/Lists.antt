@@ -1,11 +1,10 @@
 -- Lists of calls in C. The state that a call hands back is, as a ladder, the state that the ladder's request hands back; so a list of calls in C is the list of
 -- the ladder's turns, of which demand 3 speaks; and what is due to a call of the ladder is, in C, what is due there.
 use mathlib.Core.Path.{_≡_, refl, sym, ap, _∙_}
-use mathlib.Core.Bool.{Bool, true, false, not, cond}
+use mathlib.Core.Bool.{true}
 use mathlib.Core.Option.{Option, some, none}
 use mathlib.Core.List.{List, [], _∷_, map}
 use borrow.Author.Tests.{ne-eqb}
-use lib.Dec.{eqb}
 use lib.ListN.{length}
 use lib.Ieee.{Float}
 use Rattle.floats.specs.declared.Function.{Function}
@@ -20,26 +19,14 @@ use Rattle.ladder.proofs.Refusals.{refused-state}
 use Rattle.ladder_lists.specs.Demand3.{Call, ask, fed, calledBy, turns, left, Number, Numbers, Long, heldAfter, stateDue, pairDue, due, dueAll, lastState, Lent, lent}
 use Rattle.ladder_lists.proofs.Held.{table-answer}
 use Rattle.ladder_lists.proofs.Turns.{known-request}
-use Rattle.gozhnerim.specs.declared.ladders.GozhnerimLadder.{GozhnerimLadder}
-use Rattle.gozhnerim.specs.Answers.{pairOrNan}
-use Rattle.gozhnerim.specs.Ladders.{functionOf, ladderBy, ladderIn, numberOf, ladderOut, handedBack, countOf, replyOf, OutcomeInC, requestedInC}
+use Rattle.gozhnerim_structs.specs.declared.GozhnerimLadder.{GozhnerimLadder}
+use Rattle.gozhnerim_structs.specs.Answers.{pairOrNan}
+use Rattle.gozhnerim_structs.specs.Ladders.{functionOf, ladderBy, ladderIn, numberOf, ladderOut, handedBack, countOf, replyOf}
+use Rattle.gozhnerim_structs.proofs.Laws.{in-handed-back}
+use Rattle.gozhnerim.specs.Ladders.{OutcomeInC, requestedInC}
 use Rattle.gozhnerim.specs.Lists.{calledInC, callsInC, lentInC, lastInC, functionIn, begunBy, begunWith, numberIn, replyDue, dueInC, dueAllInC}
 
 -- ---- the state
-
-by-function : (function : Function) → functionOf (numberOf function) ≡ some function
-unfolding functionOf numberOf
-by-function D = refl
-by-function «V» = refl
-
-by-side : (b : Bool) → not (eqb (cond b 1 0) 0) ≡ b
-by-side true = refl
-by-side false = refl
-
--- a ladder that goes out to C comes in again as itself
-pub in-out : (s : Ladder) → ladderIn (ladderOut s) ≡ s
-unfolding ladderIn ladderBy ladderOut stateOf
-in-out s = rw (by-function (s .function), by-side (s .below)) refl
 
 pub same-number : (function : Function) → numberOf function ≡ numberIn function
 unfolding numberOf numberIn
@@ -65,17 +52,13 @@ begun-empty held e = empty-machine (heldIn (ladderIn held)) (sym (begun-is held)
 
 -- ---- one call
 
-by-refusal : (held : GozhnerimLadder) (next : Ladder) (b : Bool) → (b ≡ false → next ≡ ladderIn held) → ladderIn (cond b (ladderOut next) held) ≡ next
-by-refusal held next true kept = in-out next
-by-refusal held next false kept = sym (kept refl)
-
 -- the state handed back is the ladder's next one
 pub handed-on : (held : GozhnerimLadder) (q : Request) (l d : List Float)
     → ladderIn (requestedInC held q l d .reply .ladder) ≡ requested (ladderIn held) q l d .given .state
-unfolding requestedInC replyOf handedBack
+unfolding requestedInC replyOf
 handed-on held q l d =
     let g = requested (ladderIn held) q l d .given in
-    by-refusal held (g .state) (eqb (g .refusal) 0) (refused-state (ladderIn held) q l d)
+    in-handed-back held (g .refusal) (g .state) (refused-state (ladderIn held) q l d)
 
 -- an outcome of the ladder, in C
 abbrev pub inC : GozhnerimLadder → Outcome → OutcomeInC

@@ -1,4 +1,3 @@
-pub mod Answers
 pub mod Columns
 pub mod Ladders
 pub mod Lists

@@ -3,43 +3,19 @@
 ghost use mathlib.Core.Path.{_≡_};
 ghost use lib.ListN.{length};
 ghost use Rattle.floats.specs.declared.Function.the-variants.{D, «V»};
-ghost use Rattle.answer.specs.Answer.{refusalOf, pairOf};
 ghost use Rattle.tables.specs.Tables.{refusal, tableAfter, answer};
 ghost use Rattle.expansion.specs.Expansion as expanded;
 ghost use Rattle.maclaurin.specs.Maclaurin as maclaurin;
-ghost use Rattle.gozhnerim.specs.Answers.{answerOf};
-use answer::Answer;
+ghost use Rattle.gozhnerim_structs.specs.Answers.{answerOf};
 use floats::Function;
-
-// Refusal 0: answered. On a refusal the two numbers are NaN.
-#[repr(C)]
-pub struct GozhnerimAnswer {
-    pub refusal: u32,
-    pub value: f64,
-    pub derivative: f64,
-}
-
-// An answer as the struct.
-pub(crate) fn flat(a: Answer) -> GozhnerimAnswer
-    ensures { λ r. ⌜ r ≡ answerOf (refusalOf a) (pairOf a) ⌝ }
-{
-    match a {
-        Answer::Pair(value, derivative) => GozhnerimAnswer {
-            refusal: 0,
-            value: value,
-            derivative: derivative,
-        },
-        Answer::Refused(number) => GozhnerimAnswer {
-            refusal: number as u32,
-            value: 0.0 / 0.0,
-            derivative: 0.0 / 0.0,
-        },
-    }
-}
+use gozhnerim_structs::GozhnerimAnswer;
+use gozhnerim_structs::flat;
 
 #[no_mangle]
 pub extern "C" fn gozhnerim_d_table(v: f64, x: f64, table: &mut [f64]) -> GozhnerimAnswer
-    ensures answer { λ r. ⌜ r ≡ answerOf (refusal v x (length (now (table .entry)))) (answer D v x (length (now (table .entry)))) ⌝ }
+    ensures answer { λ r. ⌜
+        r ≡ answerOf (refusal v x (length (now (table .entry)))) (answer D v x (length (now (table .entry))))
+        ⌝ }
     ensures table { λ _. ⌜ now (table .exit) ≡ tableAfter D v x (now (table .entry)) ⌝ }
 {
     flat(tables::table(Function::D, v, x, table))
@@ -47,7 +23,9 @@ pub extern "C" fn gozhnerim_d_table(v: f64, x: f64, table: &mut [f64]) -> Gozhne
 
 #[no_mangle]
 pub extern "C" fn gozhnerim_v_table(v: f64, x: f64, table: &mut [f64]) -> GozhnerimAnswer
-    ensures answer { λ r. ⌜ r ≡ answerOf (refusal v x (length (now (table .entry)))) (answer «V» v x (length (now (table .entry)))) ⌝ }
+    ensures answer { λ r. ⌜
+        r ≡ answerOf (refusal v x (length (now (table .entry)))) (answer «V» v x (length (now (table .entry))))
+        ⌝ }
     ensures table { λ _. ⌜ now (table .exit) ≡ tableAfter «V» v x (now (table .entry)) ⌝ }
 {
     flat(tables::table(Function::V, v, x, table))

@@ -1,4 +1,5 @@
-// The column reader. An exported function cannot hand a slice back: it gives the length of the part, which begins at the first slot of the table named.
+// The column reader. An exported function cannot hand a slice back: it gives the length of the part, which begins at
+// the first slot of the table named.
 
 ghost use mathlib.Core.Path.{_≡_};
 ghost use lib.ListN.{length};

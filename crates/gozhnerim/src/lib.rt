@@ -1,5 +1,6 @@
-// The C interface: what include/gozhnerim.h declares, as libgozhnerim.a. Each function hands its request to the proved crates below and its answer back in
-// a struct of C. No function has a condition: any bytes in a state or a table are safe.
+// The C interface: what include/gozhnerim.h declares, as libgozhnerim.a. Each function hands its request to the proved
+// crates below and its answer back in a struct of C (gozhnerim_structs). No function has a condition: any bytes in a
+// state or a table are safe.
 
 mod answers;
 mod column_reader;
@@ -7,7 +8,8 @@ mod ladders;
 
 ghost use Rattle.gozhnerim.specs.Lists.{Demand3InC};
 
-// The theorem about every list of ladder requests over this interface. The statement is specs/Lists.antt, the proof proofs/Lists.antt.
+// The theorem about every list of ladder requests over this interface. The statement is specs/Lists.antt, the proof
+// proofs/Demand3InC.antt.
 pub fn demand_three_in_c()
     ensures { λ _. ⌜ Demand3InC ⌝ }
 {}

@@ -1,6 +1,6 @@
 -- `gozhnerim::answers::gozhnerim_d_expansion` meets its contract: the call's own, with the answer flat.
 use mathlib.Core.Path.{ap, ap₂, _∙_}
-use Rattle.gozhnerim.specs.Answers.{answerOf}
+use Rattle.gozhnerim_structs.specs.Answers.{answerOf}
 use Rattle.gozhnerim.proofs.answers.gozhnerim_d_expansion.Statement.{statement}
 use Rattle.gozhnerim.proofs.answers.gozhnerim_d_expansion.Tie as tie
 

@@ -1,7 +1,7 @@
 -- `gozhnerim::answers::gozhnerim_v_table` meets its contract: the call's own, with the answer flat.
 use mathlib.Core.Path.{ap, ap₂, _∙_}
 use borrow.Author.Needs.{needs}
-use Rattle.gozhnerim.specs.Answers.{answerOf}
+use Rattle.gozhnerim_structs.specs.Answers.{answerOf}
 use Rattle.gozhnerim.proofs.answers.gozhnerim_v_table.Statement.{statement}
 use Rattle.gozhnerim.proofs.answers.gozhnerim_v_table.Tie as tie
 

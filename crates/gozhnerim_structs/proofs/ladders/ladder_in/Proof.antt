@@ -1,8 +1,8 @@
--- `gozhnerim::ladders::ladder_in` meets its contract: a case for each function, and one for any other number.
+-- `gozhnerim_structs::ladders::ladder_in` meets its contract: a case for each function, and one for any other number.
 use borrow.Author.Tests.{eq-eqb, ne-eqb}
-use Rattle.gozhnerim.specs.Ladders.{functionOf, ladderBy, ladderIn}
-use Rattle.gozhnerim.proofs.ladders.ladder_in.Statement.{statement}
-use Rattle.gozhnerim.proofs.ladders.ladder_in.Tie as tie
+use Rattle.gozhnerim_structs.specs.Ladders.{functionOf, ladderBy, ladderIn}
+use Rattle.gozhnerim_structs.proofs.ladders.ladder_in.Statement.{statement}
+use Rattle.gozhnerim_structs.proofs.ladders.ladder_in.Tie as tie
 
 returns : tie.Need-returns
 unfolding functionOf ladderIn

@@ -1,8 +1,8 @@
--- `gozhnerim::ladders::count_of` meets its contract: one arm for each case.
+-- `gozhnerim_structs::ladders::count_of` meets its contract: one arm for each case.
 use Rattle.ladder.specs.Ladder.{writtenOf}
-use Rattle.gozhnerim.specs.Ladders.{countOf}
-use Rattle.gozhnerim.proofs.ladders.count_of.Statement.{statement}
-use Rattle.gozhnerim.proofs.ladders.count_of.Tie as tie
+use Rattle.gozhnerim_structs.specs.Ladders.{countOf}
+use Rattle.gozhnerim_structs.proofs.ladders.count_of.Statement.{statement}
+use Rattle.gozhnerim_structs.proofs.ladders.count_of.Tie as tie
 
 pub count-of-spec : {M : Type 1} → statement M
 unfolding writtenOf countOf

@@ -1,8 +1,9 @@
--- An answer in C (01, "A request comes in"): the refusal's number, 0 where there is none, and the pair, NaN twice where there is none.
+-- An answer in C (01, "A request comes in"): the refusal's number, 0 where there is none, and the pair, NaN twice where
+-- there is none.
 use mathlib.Core.Option.{Option, some, none}
 use Prim.Native.Nat.{ℕ}
 use lib.Ieee.{Float, nan}
-use Rattle.gozhnerim.specs.declared.answers.GozhnerimAnswer.{GozhnerimAnswer}
+use Rattle.gozhnerim_structs.specs.declared.GozhnerimAnswer.{GozhnerimAnswer}
 
 unfoldable pub pairOrNan : Option (Float × Float) → Float × Float
 pairOrNan (some p) = p

@@ -1,10 +1,10 @@
--- `gozhnerim::answers::flat` meets its contract: each arm is the definitions' clause.
+-- `gozhnerim_structs::answers::flat` meets its contract: each arm is the definitions' clause.
 use borrow.Author.Needs.{needs}
 use lib.Ieee.{div, ofBits}
 use Rattle.answer.specs.Answer.{refusalOf, pairOf}
-use Rattle.gozhnerim.specs.Answers.{pairOrNan, answerOf}
-use Rattle.gozhnerim.proofs.answers.flat.Statement.{statement}
-use Rattle.gozhnerim.proofs.answers.flat.Tie as tie
+use Rattle.gozhnerim_structs.specs.Answers.{pairOrNan, answerOf}
+use Rattle.gozhnerim_structs.proofs.answers.flat.Statement.{statement}
+use Rattle.gozhnerim_structs.proofs.answers.flat.Tie as tie
 
 returns : tie.Need-returns
 unfolding refusalOf pairOf pairOrNan answerOf

@@ -1,8 +1,0 @@
--- `gozhnerim::ladders::holding` meets its contract: the state of these fields.
-use Rattle.gozhnerim.specs.Ladders.{ladderBy}
-use Rattle.gozhnerim.proofs.ladders.holding.Statement.{statement}
-use Rattle.gozhnerim.proofs.ladders.holding.Tie as tie
-
-pub holding-spec : {M : Type 1} → statement M
-unfolding ladderBy
-holding-spec = tie.close (tie.spec (λ c κs. tt) (λ c. c .state-of .ensures))

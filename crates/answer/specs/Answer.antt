@@ -1,4 +1,5 @@
--- An answer, in 01's words ("A request comes in"): a refusal number, which is 0 where there is none, or the pair of value and derivative.
+-- An answer, in 01's words ("A request comes in"): a refusal number, which is 0 where there is none, or the pair of
+-- value and derivative.
 use mathlib.Core.Bool.{cond}
 use mathlib.Core.Option.{Option, some, none}
 use Prim.Native.Nat.{ℕ}

@@ -1,4 +1,5 @@
-// The functions below the C interface that compare/ holds to the Rust, each under a C name of its own. Each only calls the function that it is named after.
+// The functions below the C interface that compare/ holds to the Rust, each under a C name of its own. Each only calls
+// the function that it is named after.
 
 mod expansion_calls;
 

@@ -1,5 +1,5 @@
--- The derivatives of D and V (01, "Upward, downward, scaled"; the source's pbdv_impl and pbvv_impl; DLMF 12.8), each operation rounded. The rungs, and what
--- `low` and `high` are, are recurrence's specs/Recurrence.antt.
+-- The derivatives of D and V (01, "Upward, downward, scaled"; the source's pbdv_impl and pbvv_impl; DLMF 12.8), each
+-- operation rounded. The rungs, and what `low` and `high` are, are recurrence's specs/Recurrence.antt.
 use Prim.Native.Nat.{ℕ}
 use mathlib.Core.Bool.{Bool, true, false}
 use lib.Ieee.{Float, neg}

@@ -1,5 +1,5 @@
--- 01, "Off the ladder's path" and "A request comes in": the request that answers D and D′ by the mantissas of `elementary_expansion`, with its refusals. The
--- definitions of the refusal and the answer are shut to other crates.
+-- 01, "Off the ladder's path" and "A request comes in": the request that answers D and D′ by the mantissas of
+-- `elementary_expansion`, with its refusals. The definitions of the refusal and the answer are shut to other crates.
 pub mod Open
 pub mod Examples
 use mathlib.Core.Bool.{Bool, _&&_, _||_, cond, not}

@@ -1,4 +1,5 @@
--- Why `lgam` is not ported: the source's `lgam_stirling_corr` calls it below 13 only, and here its argument is 13 or more (01, "Off the ladder's path").
+-- Why `lgam` is not ported: the source's `lgam_stirling_corr` calls it below 13 only, and here its argument is 13 or
+-- more (01, "Off the ladder's path").
 -- `stirling-argument` and `stirling-argument-near` (proofs/Range.antt) prove both.
 use mathlib.Core.Path.{_≡_, refl}
 use mathlib.Core.Bool.{true}

@@ -1,25 +1,30 @@
 -- DLMF 12.10, as 01 writes it ("Off the ladder's path"): the polynomials u_s, v_s and r_s in t.
---   (t² − 1)u′_s − 3·s·t·u_s = r_(s−1)      8r_s = (3t² + 2)u_s − 12(s + 1)·t·r_(s−1) + 4(t² − 1)r′_(s−1)      u_0 = 1, r_(−1) = 0
+-- (t² − 1)u′_s − 3·s·t·u_s = r_(s−1)      8r_s = (3t² + 2)u_s − 12(s + 1)·t·r_(s−1) + 4(t² − 1)r′_(s−1)
+-- u_0 = 1      r_(−1) = 0
 --   v_s = u_s + ½t·u_(s−1) − r_(s−2)        degree 3s (odd s) or 3s − 2 (even s ≥ 2)
--- The definition solves the first equation for u_s, one coefficient after another; `Obeys` says that what it gives obeys the equation (`table-right`,
--- proofs/Rule.antt, proves that for s up to 10).
+-- The definition solves the first equation for u_s, one coefficient after another; `Obeys` says that what it gives
+-- obeys the equation (`table-right`, proofs/Rule.antt, proves that for s up to 10).
 use mathlib.Core.Bool.{Bool, _&&_}
 use mathlib.Core.List.{List, [], _∷_, _++_}
 use Prim.Native.Nat.{ℕ, zero, suc, _+_, _*_, _-_, _/_, _%_}
 use lib.IntN.{pos}
 use lib.ListN.{getD, drop}
-use Rattle.expansion_coefficients.specs.Fractions.{Fraction, over, whole, plus, times, minus, by, Polynomial, coefficient, sum, scale, difference, shift, byT²-1, by3T²+2, derivative, isZero}
+use Rattle.expansion_coefficients.specs.Fractions.{Fraction, over, whole, plus, times, minus, by, Polynomial}
+use Rattle.expansion_coefficients.specs.Fractions.{coefficient, sum, scale, difference, shift, byT²-1, by3T²+2}
+use Rattle.expansion_coefficients.specs.Fractions.{derivative, isZero}
 
 -- ---- the solution
 
--- s odd: at t^(p−1), p = 1, 3, .. 3s, the equation reads p·a_p + (3s + 2 − p)·a_(p−2) = −r_(p−1), a_k being the coefficient of t^k in u_s
+-- s odd: at t^(p−1), p = 1, 3, .. 3s, the equation reads p·a_p + (3s + 2 − p)·a_(p−2) = −r_(p−1), a_k being the
+-- coefficient of t^k in u_s
 abbrev pub upward : ℕ → ℕ → ℕ → Fraction → Polynomial → Polynomial
 upward zero s p a r = []
 upward (suc n) s p a r =
     let b = minus (by (plus (times (whole (3 * s + 2 - p)) a) (coefficient r (p - 1))) p) in
     whole 0 ∷ b ∷ upward n s (p + 2) b r
 
--- s even: at t^(k+1), k = 2n, it reads (3s − k)·a_k + (k + 2)·a_(k+2) = −r_(k+1). There is no term in t^(3s): that is what the degree 3s − 2 says
+-- s even: at t^(k+1), k = 2n, it reads (3s − k)·a_k + (k + 2)·a_(k+2) = −r_(k+1). There is no term in t^(3s): that is
+-- what the degree 3s − 2 says
 abbrev pub downward : ℕ → ℕ → Fraction → Polynomial → Polynomial → Polynomial
 downward zero s a r p = p
 downward (suc n) s a r p =
@@ -94,7 +99,8 @@ others (suc o) (x ∷ p) = x ∷ others 0 p
 
 -- (t² − 1)u′_s − 3·s·t·u_s − r_(s−1) is 0
 abbrev pub equation : ℕ → Bool
-equation s = isZero (difference (difference (byT²-1 (derivative (u s))) (scale (whole (3 * s)) (shift (u s)))) (before r s))
+equation s =
+    isZero (difference (difference (byT²-1 (derivative (u s))) (scale (whole (3 * s)) (shift (u s)))) (before r s))
 
 -- no term above the degree, and none of the other parity
 abbrev pub shaped : ℕ → Polynomial → Bool

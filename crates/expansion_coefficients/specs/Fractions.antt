@@ -1,5 +1,5 @@
--- Exact fractions, a whole number over a number above 0, in lowest terms (`same-value`, proofs/Lowest.antt, says that these are the same number); and
--- polynomials in t over them, from the lowest power up.
+-- Exact fractions, a whole number over a number above 0, in lowest terms (`same-value`, proofs/Lowest.antt, says that
+-- these are the same number); and polynomials in t over them, from the lowest power up.
 use mathlib.Core.Bool.{Bool, true, _&&_}
 use mathlib.Core.List.{List, [], _∷_}
 use Prim.Native.Nat.{ℕ, zero, suc, _*_, _/_, _%_}

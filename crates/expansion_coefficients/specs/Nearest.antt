@@ -1,5 +1,5 @@
--- What is proved of the table: `TableRight`. Each entry is within one last-place unit of its fraction (01, "Off the ladder's path") and the float nearest
--- to it, and the polynomials obey DLMF 12.10.
+-- What is proved of the table: `TableRight`. Each entry is within one last-place unit of its fraction (01, "Off the
+-- ladder's path") and the float nearest to it, and the polynomials obey DLMF 12.10.
 use mathlib.Core.Path.{_≡_}
 use mathlib.Core.Bool.{Bool, true, false}
 use Prim.Native.Nat.{ℕ, suc, _*_, _-_, _/_, _^_, _<_}

@@ -1,5 +1,6 @@
--- The flat table of the 172 coefficients (the source's U_POLY and V_POLY), by bit patterns: u_0 to u_10, then v_0 to v_10, each from its highest power
--- down; and its rows. `table-right` (proofs/Rule.antt) proves each entry to be the float nearest to its fraction.
+-- The flat table of the 172 coefficients (the source's U_POLY and V_POLY), by bit patterns: u_0 to u_10, then v_0 to
+-- v_10, each from its highest power down; and its rows. `table-right` (proofs/Rule.antt) proves each entry to be the
+-- float nearest to its fraction.
 use mathlib.Core.List.{List, [], _∷_}
 use Prim.Native.Nat.{ℕ, zero, suc, _+_}
 use lib.Ieee.{Float, nan}

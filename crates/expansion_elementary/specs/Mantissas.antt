@@ -1,5 +1,6 @@
--- 01, "Off the ladder's path": `pbdv_elementary` (src/xsf/par_cyl.rs), D and D′ by DLMF 12.10.25 and 12.10.29 as mantissas with one exponent. Each step is
--- one rounded operation, left to right. The definition of the mantissas is shut to other crates.
+-- 01, "Off the ladder's path": `pbdv_elementary` (src/xsf/par_cyl.rs), D and D′ by DLMF 12.10.25 and 12.10.29 as
+-- mantissas with one exponent. Each step is one rounded operation, left to right. The definition of the mantissas is
+-- shut to other crates.
 pub mod Open
 use mathlib.Core.Bool.{cond}
 use lib.Ieee.{Float, lt, le, neg}

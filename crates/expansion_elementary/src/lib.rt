@@ -1,4 +1,5 @@
-// D and its derivative at large negative orders, by the uniform expansions in elementary functions (DLMF 12.10.25 and 12.10.29), with a = -v - 1/2.
+// D and its derivative at large negative orders, by the uniform expansions in elementary functions (DLMF 12.10.25 and
+// 12.10.29), with a = -v - 1/2.
 
 ghost use mathlib.Core.Path.{_≡_};
 ghost use Rattle.expansion_elementary.specs.Mantissas.{clamped, logarithmOf, exponentOf, weight, gBar, mantissas};
@@ -58,7 +59,8 @@ fn g_bar(a: f64) -> f64
     1.0 + 0.5 * exponential::exp_m1(-gamma_ratio::ln_gamma_ratio(a))
 }
 
-// The expansion, for every f64: orders of -20 and below are those that it is made for. The factor g comes first: the roots and sums do not wait for it.
+// The expansion, for every f64: orders of -20 and below are those that it is made for. The factor g comes first: the
+// roots and sums do not wait for it.
 pub fn pbdv_elementary(v: f64, x: f64) -> Mantissas
     ensures value { λ r. ⌜ r .value ≡ mantissas v x .0 ⌝ }
     ensures derivative { λ r. ⌜ r .derivative ≡ mantissas v x .1 ⌝ }

@@ -1,5 +1,5 @@
--- 01, "Off the ladder's path": `uv_poly` (src/xsf/par_cyl.rs) over `polevl` (src/xsf/cephes/polevl.rs), and the sums over s of `pbdv_elementary`. Each step
--- is one rounded operation, left to right. The sums are shut to other crates.
+-- 01, "Off the ladder's path": `uv_poly` (src/xsf/par_cyl.rs) over `polevl` (src/xsf/cephes/polevl.rs), and the sums
+-- over s of `pbdv_elementary`. Each step is one rounded operation, left to right. The sums are shut to other crates.
 pub mod Open
 pub mod Examples
 use mathlib.Core.Bool.{Bool, true, cond}
@@ -11,7 +11,8 @@ use Rattle.floats.specs.Operations.{_⊕_, _⊗_, f0, f1}
 use Rattle.floats.specs.Polynomials.{polevl}
 use Rattle.expansion_coefficients.specs.Table.{uRow, vRow}
 
--- "if bar { polevl(-t * t, p) * if s & 2 == 0 { 1.0 } else { -1.0 } } else { polevl(t * t, p) }": with bar, i^s u_s(−it) up to the factor t (DLMF 12.10.27)
+-- "if bar { polevl(-t * t, p) * if s & 2 == 0 { 1.0 } else { -1.0 } } else { polevl(t * t, p) }": with bar, i^s
+-- u_s(−it) up to the factor t (DLMF 12.10.27)
 unfoldable pub inSquares : List Float → ℕ → Float → Bool → Float
 inSquares p s t bar = cond bar (polevl p (neg t ⊗ t) ⊗ cond (eqb (s / 2 % 2) 0) f1 (neg f1)) (polevl p (t ⊗ t))
 

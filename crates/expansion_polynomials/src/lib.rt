@@ -1,4 +1,5 @@
-// The polynomials u_s and v_s of DLMF 12.10, and their sums in the expansion for large negative order. Each public function answers every input.
+// The polynomials u_s and v_s of DLMF 12.10, and their sums in the expansion for large negative order. Each public
+// function answers every input.
 
 ghost use mathlib.Core.Path.{_≡_};
 ghost use Prim.Native.Nat.{_-_, _≤_};

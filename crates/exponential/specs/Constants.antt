@@ -1,4 +1,5 @@
--- The constants of 01's exp, exp2 and exp_m1, each by its bits; `NAME-is` says which decimal of 01 it is the float nearest to.
+-- The constants of 01's exp, exp2 and exp_m1, each by its bits; `NAME-is` says which decimal of 01 it is the float
+-- nearest to.
 use mathlib.Core.Path.{_≡_, refl}
 use lib.Ieee.{Float, ofBits}
 use Rattle.floats.specs.Operations.{bits, decimal}
@@ -11,7 +12,8 @@ pub log2e-is : log2e ≡ decimal 14426950408889634 16
 unfolding decimal ofBits
 log2e-is = refl
 
--- 0.6931471803691238: ln 2 is ln2High + ln2Low: the high part has few digits, so that its products with whole numbers are exact
+-- 0.6931471803691238: ln 2 is ln2High + ln2Low: the high part has few digits, so that its products with whole numbers
+-- are exact
 abbrev pub ln2High : Float
 ln2High = bits 0x3fe6_2e42_fee0_0000
 

@@ -1,4 +1,5 @@
--- Minimum and maximum, each with an answer for every f64 (01, "Elementary functions, the lowest layer", last line; the Rust methods named).
+-- Minimum and maximum, each with an answer for every f64 (01, "Elementary functions, the lowest layer", last line; the
+-- Rust methods named).
 use mathlib.Core.Bool.{cond}
 use lib.Ieee.{Float, lt, isNan}
 

@@ -1,5 +1,6 @@
--- The words in which the laws of proofs/ speak of floats. A finite float is a sign and a fraction: the library's `HasValue x s a c` says that x has the
--- sign s and the size a / c. Its `grid f a c` is what a / c rounds to in the format f, in units of the format's smallest value, of which 2 ^ low f make 1.
+-- The words in which the laws of proofs/ speak of floats. A finite float is a sign and a fraction: the library's
+-- `HasValue x s a c` says that x has the sign s and the size a / c. Its `grid f a c` is what a / c rounds to in the
+-- format f, in units of the format's smallest value, of which 2 ^ low f make 1.
 use mathlib.Core.Path.{_≡_}
 use Prim.Native.Nat.{ℕ, _*_, _^_, _≤_, _<_}
 use mathlib.Core.Bool.{Bool, true, false, cond}

@@ -1,4 +1,5 @@
--- The words that every definition above shares: binary64's rounded operations, an integer as a float, and a constant by its bits or its digits.
+-- The words that every definition above shares: binary64's rounded operations, an integer as a float, and a constant by
+-- its bits or its digits.
 use mathlib.Core.Path.{_≡_, refl}
 use Prim.Native.Nat.{ℕ, _^_}
 use mathlib.Core.Bool.{false}
@@ -6,7 +7,8 @@ use lib.IntN.{ℤ, pos}
 use lib.Ieee as Ieee
 use lib.Ieee.{Float, binary64, round, ofBits}
 
--- IEEE 754's sum, difference, product and quotient at binary64, each rounded once. So x ⊗ y ⊖ z reads as the source line x * y - z.
+-- IEEE 754's sum, difference, product and quotient at binary64, each rounded once. So x ⊗ y ⊖ z reads as the source
+-- line x * y - z.
 infixl 6 _⊕_ _⊖_
 infixl 7 _⊗_ _⊘_
 abbrev pub _⊕_ : Float → Float → Float
@@ -33,7 +35,8 @@ whole n = float (pos n)
 abbrev pub bits : ℕ → Float
 bits n = Ieee.ofBits binary64 n
 
--- digits / 10 ^ places, rounded once: the float that a decimal literal of a program stands for. Beside each constant stands the theorem that it is its decimal.
+-- digits / 10 ^ places, rounded once: the float that a decimal literal of a program stands for. Beside each constant
+-- stands the theorem that it is its decimal.
 unfoldable pub decimal : ℕ → ℕ → Float
 unfolding round
 decimal digits places = round binary64 false digits (10 ^ places)

@@ -1,4 +1,5 @@
--- The source's `polevl` (src/xsf/cephes/polevl.rs): a polynomial by its coefficients, from the highest power down, each step rounded.
+-- The source's `polevl` (src/xsf/cephes/polevl.rs): a polynomial by its coefficients, from the highest power down, each
+-- step rounded.
 use mathlib.Core.List.{List, [], _∷_}
 use lib.Ieee.{Float}
 use Rattle.floats.specs.Operations.{_⊕_, _⊗_, f0}

@@ -1,6 +1,6 @@
--- 01, "Bottom rungs": gamma2 (src/xsf/specfun/gamma.rs), that is Γ(x), which has poles at 0, −1, −2, … (DLMF 5.2(i)). Each step is one rounded operation,
--- left to right. The definition of gamma2 is shut: other crates cannot unfold it. What they may know of it are the contract and the laws of
--- proofs/Laws.antt and proofs/Poles.antt.
+-- 01, "Bottom rungs": gamma2 (src/xsf/specfun/gamma.rs), that is Γ(x), which has poles at 0, −1, −2, … (DLMF 5.2(i)).
+-- Each step is one rounded operation, left to right. The definition of gamma2 is shut: other crates cannot unfold it.
+-- What they may know of it are the contract and the laws of proofs/Laws.antt and proofs/Poles.antt.
 pub mod Open
 pub mod Examples
 use Prim.Native.Nat.{ℕ, _+_, _-_}

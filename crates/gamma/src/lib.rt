@@ -1,4 +1,5 @@
-// gamma2: whole numbers by their product, all others by the series of 1/Γ at the fraction, the recurrence of Γ, and below -1 the reflection.
+// gamma2: whole numbers by their product, all others by the series of 1/Γ at the fraction, the recurrence of Γ, and
+// below -1 the reflection.
 
 ghost use mathlib.Core.Path.{_≡_};
 ghost use lib.Ieee.{toSigned};

@@ -1,5 +1,5 @@
--- 01, "Off the ladder's path": log1pmx, `lgam_stirling_corr` (src/xsf/cephes/gamma.rs) and `ln_gamma_ratio` (src/xsf/par_cyl.rs). Each step is one rounded
--- operation, left to right. The definitions are shut to other crates.
+-- 01, "Off the ladder's path": log1pmx, `lgam_stirling_corr` (src/xsf/cephes/gamma.rs) and `ln_gamma_ratio`
+-- (src/xsf/par_cyl.rs). Each step is one rounded operation, left to right. The definitions are shut to other crates.
 pub mod Open
 pub mod Examples
 use mathlib.Core.Bool.{false}
@@ -25,8 +25,8 @@ log1pmxSum w = countUp (log1pmxTurn w) 498 2 (false, (w, f0))
 pub log1pmx : Float → Float
 log1pmx w = log1pmxSum w .1
 
--- "let p = 1.0 / (x * x); polevl(p, &GAMMA_A) / x". The source's other branch, below 13, is never reached (`stirling-argument`, expansion's
--- proofs/Range.antt).
+-- "let p = 1.0 / (x * x); polevl(p, &GAMMA_A) / x". The source's other branch, below 13, is never reached
+-- (`stirling-argument`, expansion's proofs/Range.antt).
 pub lgamStirlingCorr : Float → Float
 lgamStirlingCorr x = polevl gammaA (f1 ⊘ (x ⊗ x)) ⊘ x
 

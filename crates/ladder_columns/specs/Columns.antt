@@ -1,4 +1,5 @@
--- The two columns of a table, values and derivatives, in two lists (01, "Splitting the order" and "Upward, downward, scaled").
+-- The two columns of a table, values and derivatives, in two lists (01, "Splitting the order" and "Upward, downward,
+-- scaled").
 use mathlib.Core.List.{List}
 use Prim.Native.Nat.{ℕ, _+_}
 use mathlib.Core.Bool.{Bool, _&&_, cond}

@@ -14,7 +14,10 @@ use value_column::fill_values;
 fn fill_derivatives_over(values: &[f64], derivatives: &mut [f64], sequence: Sequence, n: Rung)
     requires values { ⌜ n < length (now values) ⌝ }
     requires room { ⌜ n ≤ length (now derivatives) ⌝ }
-    ensures { λ _. ⌜ now (derivatives .exit) ≡ filled (derivativeOver sequence (now (values .entry))) 0 0 n (now (derivatives .entry)) ⌝ }
+    ensures { λ _. ⌜
+        now (derivatives .exit)
+        ≡ filled (derivativeOver sequence (now (values .entry))) 0 0 n (now (derivatives .entry))
+        ⌝ }
 {
     let function = sequence.function;
     for k in 0..n {
@@ -42,7 +45,8 @@ fn has_room(n: Rung, values: usize, derivatives: usize) -> bool
     false
 }
 
-// Stores values 0 to n in one table and derivatives 0 to n - 1 in another. Where a table is too short, or n is not 1 to 1000, nothing is stored.
+// Stores values 0 to n in one table and derivatives 0 to n - 1 in another. Where a table is too short, or n is not 1 to
+// 1000, nothing is stored.
 pub fn fill_columns(
     values: &mut [f64],
     derivatives: &mut [f64],
@@ -50,8 +54,13 @@ pub fn fill_columns(
     u: f64,
     n: Rung,
 )
-    ensures values { λ _. ⌜ now (values .exit) ≡ valueColumn sequence u n (now (values .entry)) (length (now (derivatives .entry))) ⌝ }
-    ensures derivatives { λ _. ⌜ now (derivatives .exit) ≡ derivativeColumn sequence u n (length (now (values .entry))) (now (derivatives .entry)) ⌝ }
+    ensures values { λ _. ⌜
+        now (values .exit) ≡ valueColumn sequence u n (now (values .entry)) (length (now (derivatives .entry)))
+        ⌝ }
+    ensures derivatives { λ _. ⌜
+        now (derivatives .exit)
+        ≡ derivativeColumn sequence u n (length (now (values .entry))) (now (derivatives .entry))
+        ⌝ }
 {
     if has_room(n, values.len(), derivatives.len()) {
         fill_values(values, sequence, u, n);

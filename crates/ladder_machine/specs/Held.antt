@@ -7,7 +7,8 @@ use Rattle.signs.specs.Signs.{absolute}
 use Rattle.ladder_machine.specs.declared.Held.{Held}
 use Rattle.ladder_machine.specs.declared.Judgement.{Judgement}
 use Rattle.ladder_machine.specs.declared.Judgement.the-variants.{Refused, Repeat, Climb, StartOver}
-use Rattle.ladder_machine.specs.Machine.{Machine, empty, holds, bitsOf, Verdict, refuses, repeats, climbs, startsOver}
+use Rattle.ladder_machine.specs.Machine.{Machine, empty, holds, bitsOf, Verdict, refuses, repeats, climbs}
+use Rattle.ladder_machine.specs.Machine.{startsOver}
 pub mod Open
 
 -- n is 0 or above 1000, x or f is NaN, or the size of f is 1 or more

@@ -126,7 +126,8 @@ caseOf m q = caseBy m (q .function) (below (q .v)) (bitsOf (q .x)) (bitsOf (frac
 
 -- by the inputs of the call
 pub verdictOn : Machine → Inputs → ℕ → ℕ → Verdict
-verdictOn m (request q) values derivatives = cond (eqb (refusal q values derivatives) 0) (caseOf m q) (refuses (refusal q values derivatives))
+verdictOn m (request q) values derivatives =
+    cond (eqb (refusal q values derivatives) 0) (caseOf m q) (refuses (refusal q values derivatives))
 
 pub verdict : Machine → Feed → Verdict
 verdict m d = verdictOn m (d .inputs) (d .values) (d .derivatives)

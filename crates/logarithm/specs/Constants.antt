@@ -1,5 +1,5 @@
--- The constants of 01's ln, each by its bits; `NAME-is` says which decimal of 01 it is the float nearest to. The two parts of ln 2 stand in
--- exponential's specs/Constants.antt.
+-- The constants of 01's ln, each by its bits; `NAME-is` says which decimal of 01 it is the float nearest to. The two
+-- parts of ln 2 stand in exponential's specs/Constants.antt.
 use mathlib.Core.Path.{_≡_, refl}
 use lib.Ieee.{Float, ofBits}
 use Rattle.floats.specs.Operations.{bits, decimal}

@@ -1,5 +1,5 @@
--- 01, "Off the ladder's path" and "A request comes in": the request that answers the pair of `maclaurin_series`, with its refusals. The definitions of the
--- refusal and the answer are shut to other crates.
+-- 01, "Off the ladder's path" and "A request comes in": the request that answers the pair of `maclaurin_series`, with
+-- its refusals. The definitions of the refusal and the answer are shut to other crates.
 pub mod Open
 use mathlib.Core.Bool.{Bool, _||_, cond}
 use mathlib.Core.Option.{Option}

@@ -1,5 +1,5 @@
--- 01, "Off the ladder's path": `pb_maclaurin` (src/xsf/par_cyl.rs), the Maclaurin series of w″ = (x²/4 + a)w (DLMF 12.2.2). Each step is one rounded
--- operation, left to right. The definition of the pair is shut to other crates.
+-- 01, "Off the ladder's path": `pb_maclaurin` (src/xsf/par_cyl.rs), the Maclaurin series of w″ = (x²/4 + a)w (DLMF
+-- 12.2.2). Each step is one rounded operation, left to right. The definition of the pair is shut to other crates.
 pub mod Open
 pub mod Examples
 use mathlib.Core.Bool.{false, cond}
@@ -22,13 +22,15 @@ State = Float × Float × Float × Float × Float × Float × Float × Float
 abbrev pub nextCoefficient : Float → ℕ → Float → Float → Float
 nextCoefficient a n c0 c2 = (a ⊗ c2 ⊕ f¼ ⊗ c0) ⊘ ((whole n ⊕ f1) ⊗ (whole n ⊕ f2))
 
--- "c = [c[1], c[2], c[3], cn2]; term = (nf + 2.0) * cn2 * xn; dp += term; xn *= x; d += cn2 * xn; size = term.abs().max(prev);
+-- "c = [c[1], c[2], c[3], cn2]; term = (nf + 2.0) * cn2 * xn; dp += term; xn *= x; d += cn2 * xn; size =
+-- term.abs().max(prev);
 -- if size <= 1e-17 * dp.abs().min(d.abs() / x.abs()) { break; } prev = term.abs()"
 unfoldable pub turn : Float → Float → ℕ → State → Turn State
 turn a x n (c0, c1, c2, c3, d, dp, xn, prev) =
     let c = nextCoefficient a n c0 c2 in
     let term = (whole n ⊕ f2) ⊗ c ⊗ xn in (
-      le (greater (absolute term) prev) (seriesEpsilon ⊗ lesser (absolute (dp ⊕ term)) (absolute (d ⊕ c ⊗ (xn ⊗ x)) ⊘ absolute x)),
+      le (greater (absolute term) prev)
+          (seriesEpsilon ⊗ lesser (absolute (dp ⊕ term)) (absolute (d ⊕ c ⊗ (xn ⊗ x)) ⊘ absolute x)),
       (c1, c2, c3, c, d ⊕ c ⊗ (xn ⊗ x), dp ⊕ term, xn ⊗ x, absolute term),
     )
 
@@ -38,7 +40,8 @@ series a x c0 c1 = countUp (turn a x) 60 0 (false, (f0, f0, c0, c1, c0 ⊕ c1 �
 
 -- ---- the pair
 
--- "(k, ex) = (pow2(600), e - 600.0 * LN_2)", "mul_exp(c0 * k + c1 * (x * k), ex)", "mul_exp(c1 * k + a * c0 * (x * k), ex)"
+-- "(k, ex) = (pow2(600), e - 600.0 * LN_2)", "mul_exp(c0 * k + c1 * (x * k), ex)", "mul_exp(c1 * k + a * c0 * (x * k),
+-- ex)"
 unfoldable pub shortForm : Float → Float → Float → Float → Float → Float × Float
 shortForm a x c0 c1 e =
     let ex = e ⊖ f600 ⊗ ln2 in
@@ -46,4 +49,6 @@ shortForm a x c0 c1 e =
 
 -- "if x.abs() < 1e-150 { .. }", "(mul_exp(d, e), mul_exp(dp, e))"
 pub pbMaclaurin : Float → Float → Float → Float → Float → Float × Float
-pbMaclaurin a x c0 c1 e = cond (lt (absolute x) shortFormLimit) (shortForm a x c0 c1 e) (mulExp (series a x c0 c1 .4) e, mulExp (series a x c0 c1 .5) e)
+pbMaclaurin a x c0 c1 e =
+    cond (lt (absolute x) shortFormLimit) (shortForm a x c0 c1 e)
+    (mulExp (series a x c0 c1 .4) e, mulExp (series a x c0 c1 .5) e)

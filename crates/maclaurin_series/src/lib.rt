@@ -1,4 +1,5 @@
-// w(x) and w'(x) by the Maclaurin series of w'' = (x^2/4 + a) w (DLMF 12.2.2), with w(0) and w'(0) as the mantissas c0 and c1 with the exponent e.
+// w(x) and w'(x) by the Maclaurin series of w'' = (x^2/4 + a) w (DLMF 12.2.2), with w(0) and w'(0) as the mantissas c0
+// and c1 with the exponent e.
 
 ghost use mathlib.Core.Path.{_≡_};
 ghost use Rattle.maclaurin_series.specs.Series.{series, shortForm, pbMaclaurin};
@@ -16,7 +17,8 @@ struct Sums {
     dp: f64,
 }
 
-// The series, of at most 60 steps. b0 to b3 are the coefficients of x^(n-2) to x^(n+1), xn is x^(n+1), and prev the size of the last term of dp.
+// The series, of at most 60 steps. b0 to b3 are the coefficients of x^(n-2) to x^(n+1), xn is x^(n+1), and prev the
+// size of the last term of dp.
 fn series(a: f64, x: f64, c0: f64, c1: f64) -> Sums
     ensures d { λ r. ⌜ r .d ≡ series a x c0 c1 .4 ⌝ }
     ensures dp { λ r. ⌜ r .dp ≡ series a x c0 c1 .5 ⌝ }

@@ -1,4 +1,5 @@
--- 01, "Off the ladder's path": `mul_exp` (src/utils.rs), m·e^e. Each step is one rounded operation, left to right. The definition is shut to other crates.
+-- 01, "Off the ladder's path": `mul_exp` (src/utils.rs), m·e^e. Each step is one rounded operation, left to right. The
+-- definition is shut to other crates.
 pub mod Open
 use mathlib.Core.Path.{_≡_, refl}
 use mathlib.Core.Bool.{cond}

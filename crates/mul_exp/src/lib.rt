@@ -11,7 +11,8 @@ pub struct Both {
     pub second: f64,
 }
 
-// m * e^e: m * h * h with h = e^(e/2), which is a normal float up to a size of 1400; beyond it e^(ln|m| + e) with the sign of m.
+// m * e^e: m * h * h with h = e^(e/2), which is a normal float up to a size of 1400; beyond it e^(ln|m| + e) with the
+// sign of m.
 pub fn mul_exp(m: f64, e: f64) -> f64
     ensures { λ r. ⌜ r ≡ mulExp m e ⌝ }
 {

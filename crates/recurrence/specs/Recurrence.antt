@@ -1,5 +1,7 @@
--- The recurrences of D and V (01, "Upward, downward, scaled"; the source's pbdv_impl and pbvv_impl; DLMF 12.8), each operation rounded.
--- Rung k has the order f + k on the side v ≥ 0 and f − k below 0, where `below` is true. DLMF's U(a, x) and V(a, x) have a = −order − ½; D is U.
+-- The recurrences of D and V (01, "Upward, downward, scaled"; the source's pbdv_impl and pbvv_impl; DLMF 12.8), each
+-- operation rounded.
+-- Rung k has the order f + k on the side v ≥ 0 and f − k below 0, where `below` is true. DLMF's U(a, x) and V(a, x)
+-- have a = −order − ½; D is U.
 -- In each formula `low` and `high` are the values of two neighbouring rungs, `low` that of the lower number.
 use Prim.Native.Nat.{ℕ}
 use mathlib.Core.Bool.{Bool, true, false, _&&_, cond}

@@ -17,7 +17,8 @@ rootDigits (suc d) n = let q = rootDigits d (n / 4) in cond (leb ((2 * q + 1) * 
 pub wholeRoot : ℕ → ℕ
 wholeRoot n = rootDigits (size n) n
 
--- the whole number nearest to the root of x in units of 2 ^ c: q or q + 1, by how x compares with the square of the middle, q + 1/2; at a tie the even one
+-- the whole number nearest to the root of x in units of 2 ^ c: q or q + 1, by how x compares with the square of the
+-- middle, q + 1/2; at a tie the even one
 pub roundedRoot : ℕ → ℕ → ℕ
 roundedRoot x c = let q = wholeRoot (x / 4 ^ c) in nearest q (compare (4 * x) ((2 * q + 1) * (2 * q + 1) * 4 ^ c))
 
@@ -32,7 +33,8 @@ rootOfUnits n =
     let c = droppedDigits x in
     odd (prec binary64) false (roundedRoot x c) c (low binary64)
 
--- the square root at binary64: a zero stays, with its sign, and below 0 it is NaN. `square-root-nearest` proves that it is the nearest float.
+-- the square root at binary64: a zero stays, with its sign, and below 0 it is NaN. `square-root-nearest` proves that it
+-- is the nearest float.
 pub squareRoot : Float → Float
 squareRoot nan = nan
 squareRoot (inf s) = cond s nan (inf false)

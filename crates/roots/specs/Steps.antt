@@ -7,7 +7,8 @@ use Rattle.roots.specs.SquareRoot.{roundedRoot, rootOfUnits}
 
 -- ---- the digits of the root
 
--- before a further digit: rest has the digits to come, in 54 places, and root ^ 2 + remainder is the number whose digits are passed
+-- before a further digit: rest has the digits to come, in 54 places, and root ^ 2 + remainder is the number whose
+-- digits are passed
 pub record Partial (rest root remainder : ℕ) : Type 0 where
   pub room : rest < 2 ^ 54
   pub small : root < 2 ^ 52
@@ -62,7 +63,8 @@ pub record Normal (n significand exponent : ℕ) : Type 0 where
   pub most : significand < 2 ^ 53
   pub room : exponent < 2099
 
--- the pattern is that of the root of n units, significand * 2 ^ exponent units; the leading digit of the significand adds 1 to the exponent's field
+-- the pattern is that of the root of n units, significand * 2 ^ exponent units; the leading digit of the significand
+-- adds 1 to the exponent's field
 pub record RootPattern (n pattern : ℕ) : Type 0 where
   pub exponent : ℕ
   pub significand : ℕ

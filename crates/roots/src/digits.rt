@@ -1,4 +1,5 @@
-// The root of radicand * 2^52 digit by digit: its 53 binary digits are found one by one, and the last is rounded by the remainder.
+// The root of radicand * 2^52 digit by digit: its 53 binary digits are found one by one, and the last is rounded by the
+// remainder.
 
 ghost use Prim.Native.Nat.{_-_, _^_, _≤_, _<_};
 ghost use Rattle.roots.specs.Steps.{Partial, NextDigit, WholeRoot, NearestWhole};
@@ -50,7 +51,8 @@ fn root_digits(radicand: u64) -> Digits
     s
 }
 
-// The whole number nearest to the root of radicand * 2^52, which is above root + 1/2 exactly where the remainder is above root.
+// The whole number nearest to the root of radicand * 2^52, which is above root + 1/2 exactly where the remainder is
+// above root.
 pub(crate) fn nearest_by_digits(radicand: u64) -> u64
     requires { ⌜ (2 ^ 52 ≤ radicand) × (radicand < 2 ^ 54 - 1) ⌝ }
     ensures { λ r. ⌜ NearestWhole radicand r ⌝ }

@@ -1,9 +1,12 @@
-// IEEE 754's square root of an f64, in whole numbers. A float x above 0 is n units of 2^-1074, and its root in these units is the root of n * 2^1074.
-// That number is written as radicand * 2^52 * 4^c, the radicand of 53 or 54 binary digits. The root of radicand * 2^52 has 53 digits: they are the
-// significand of the result, and c is its exponent. They come from a guess by floats (guess.rt) that is certified in whole numbers (certificate.rt);
+// IEEE 754's square root of an f64, in whole numbers. A float x above 0 is n units of 2^-1074, and its root in these
+// units is the root of n * 2^1074.
+// That number is written as radicand * 2^52 * 4^c, the radicand of 53 or 54 binary digits. The root of radicand * 2^52
+// has 53 digits: they are the significand of the result, and c is its exponent. They come from a guess by floats
+// (guess.rt) that is certified in whole numbers (certificate.rt);
 // where it is not certified they are found one by one (digits.rt).
-// 4503599627370496 is 2^52, 9007199254740992 is 2^53, 18014398509481984 is 2^54, 9223372036854775808 is 2^63, the bit of the sign, 9218868437227405312 is
-// the pattern of infinity, and 4602678819172646912 is 1022 * 2^52, which added to a significand makes the pattern of significand / 2^52.
+// 4503599627370496 is 2^52, 9007199254740992 is 2^53, 18014398509481984 is 2^54, 9223372036854775808 is 2^63, the bit
+// of the sign, 9218868437227405312 is the pattern of infinity, and 4602678819172646912 is 1022 * 2^52, which added to a
+// significand makes the pattern of significand / 2^52.
 
 mod certificate;
 mod digits;
@@ -23,8 +26,8 @@ struct Scaled {
     exponent: u64,
 }
 
-// The whole number nearest to the root of significand * (2 - parity) * 2^52. The guess, from 1 to 2, is read as a whole number of units of 2^-52: its
-// pattern is 1023 * 2^52 and the fraction, and 1023 * 2^52 + 2^53 is 2^52 modulo 2^54.
+// The whole number nearest to the root of significand * (2 - parity) * 2^52. The guess, from 1 to 2, is read as a whole
+// number of units of 2^-52: its pattern is 1023 * 2^52 and the fraction, and 1023 * 2^52 + 2^53 is 2^52 modulo 2^54.
 fn nearest_root(significand: u64, parity: u64) -> u64
     requires { ⌜ (2 ^ 52 ≤ significand) × (significand < 2 ^ 53) × (parity < 2) ⌝ }
     ensures { λ r. ⌜ NearestWhole (significand * (2 - parity)) r ⌝ }
@@ -78,7 +81,8 @@ fn from_pattern(pattern: u64) -> Scaled
     }
 }
 
-// The pattern of the root. At an even exponent the radicand is twice the significand. The root's leading digit adds 1 to the field.
+// The pattern of the root. At an even exponent the radicand is twice the significand. The root's leading digit adds 1
+// to the field.
 fn root_pattern(pattern: u64) -> u64
     requires { ⌜ (0 < pattern) × (pattern < 2047 * 2 ^ 52) ⌝ }
     ensures { λ r. ⌜ RootPattern (magnitude pattern) r ⌝ }

@@ -1,5 +1,5 @@
--- The functions of a float's sign and class, each with an answer for every f64 (01, "Elementary functions, the lowest layer", last line; IEEE 754; the Rust
--- methods named). The NaN test is the library's `isNan`.
+-- The functions of a float's sign and class, each with an answer for every f64 (01, "Elementary functions, the lowest
+-- layer", last line; IEEE 754; the Rust methods named). The NaN test is the library's `isNan`.
 use mathlib.Core.Bool.{Bool, true, false, not, _&&_, cond}
 use lib.Dec.{eqb}
 use lib.Ieee.{Float, nan, inf, fin, binary64, neg, lt, isNan, toBits}

@@ -1,4 +1,5 @@
-// What a float is, beside its value: its sign, whether it is NaN or an infinity, whether two are alike. Each function answers every f64.
+// What a float is, beside its value: its sign, whether it is NaN or an infinity, whether two are alike. Each function
+// answers every f64.
 
 ghost use mathlib.Core.Path.{_≡_};
 ghost use lib.Ieee.{isNan};

@@ -1,4 +1,5 @@
--- The slots of a list: one of them, and a stretch of them written, the form of every exit list. Laws: proofs/Filled.antt.
+-- The slots of a list: one of them, and a stretch of them written, the form of every exit list. Laws:
+-- proofs/Filled.antt.
 use mathlib.Core.List.{List}
 use Prim.Native.Nat.{ℕ, zero, suc, _+_}
 use lib.ListN.{getD, set}

@@ -1,5 +1,6 @@
--- 01, "Bottom rungs": dvla and vvla (src/xsf/par_cyl.rs); dvsa and vvsa are of `start_sums_small`. Each step is one rounded operation, left to right. In DLMF's words D
--- of the order v is U(a, x) and V of the order v is V(a, x), with a = −v − 1/2 (DLMF 12.1).
+-- 01, "Bottom rungs": dvla and vvla (src/xsf/par_cyl.rs); dvsa and vvsa are of `start_sums_small`. Each step is one
+-- rounded operation, left to right. In DLMF's words D of the order v is U(a, x) and V of the order v is V(a, x), with a
+-- = −v − 1/2 (DLMF 12.1).
 -- The definitions of the two are shut: other crates cannot unfold them. What they may know of them are the contracts.
 pub mod Open
 pub mod Examples
@@ -66,8 +67,8 @@ vvlaJoined va pv pdl =
 abbrev pub fallingNumber : Float → ℕ
 fallingNumber x = cond (lt x f0) 1 0
 
--- The two call each other at −x where x is negative. There −x is not negative and the answer is the expansion alone, so no recursion is left
--- (`dvla-below` and `vvla-below` of StartSums/Open.antt have the calls as the source has them).
+-- The two call each other at −x where x is negative. There −x is not negative and the answer is the expansion alone, so
+-- no recursion is left (`dvla-below` and `vvla-below` of StartSums/Open.antt have the calls as the source has them).
 pub dvla : Float → Float → Float
 dvla x va = cond (lt x f0) (dvlaJoined va (dvlaExpansion x va) (vvlaExpansion (neg x) va)) (dvlaExpansion x va)
 

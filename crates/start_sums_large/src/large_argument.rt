@@ -11,7 +11,8 @@
 // Tables take dvla beyond a size of x of 5.8 and vvla beyond 7.5.
 
 ghost use mathlib.Core.Path.{_≡_};
-ghost use Rattle.start_sums_large.specs.StartSums.{dvlaSum, dvlaExpansion, dvlaJoined, dvla, vvlaSum, vvlaExpansion, vvlaJoined, vvla};
+ghost use Rattle.start_sums_large.specs.StartSums.{dvlaSum, dvlaExpansion, dvlaJoined, dvla, vvlaSum};
+ghost use Rattle.start_sums_large.specs.StartSums.{vvlaExpansion, vvlaJoined, vvla};
 use crate::constants::SQRT_FRAC_2_PI;
 use exponential::exp;
 use floats::PI;

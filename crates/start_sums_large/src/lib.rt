@@ -1,5 +1,5 @@
-// The start sums of D and V for large arguments, and under the same names those for small ones (`start_sums_small`): what the
-// bottom rungs of every table come from.
+// The start sums of D and V for large arguments, and under the same names those for small ones (`start_sums_small`):
+// what the bottom rungs of every table come from.
 
 pub mod constants;
 mod large_argument;

@@ -1,7 +1,7 @@
--- 01, "Bottom rungs": dvsa and vvsa (src/xsf/par_cyl.rs). Each step is one rounded operation, left to right. In DLMF's words D of the order v is U(a, x) and
--- V of the order v is V(a, x), with a = −v − 1/2 (DLMF 12.1).
--- The definitions of the two are shut: other crates cannot unfold them. What they may know of them are the contracts and the laws of proofs/Laws.antt and
--- proofs/Poles.antt.
+-- 01, "Bottom rungs": dvsa and vvsa (src/xsf/par_cyl.rs). Each step is one rounded operation, left to right. In DLMF's
+-- words D of the order v is U(a, x) and V of the order v is V(a, x), with a = −v − 1/2 (DLMF 12.1).
+-- The definitions of the two are shut: other crates cannot unfold them. What they may know of them are the contracts
+-- and the laws of proofs/Laws.antt and proofs/Poles.antt.
 pub mod Open
 pub mod Examples
 use Prim.Native.Nat.{ℕ}
@@ -64,7 +64,8 @@ vvsaAtZero va =
     let va0 = f1 ⊕ f½ ⊗ va in
     cond (isPole va0 || eq va f0) f0 (exp2 (neg f½ ⊗ va) ⊗ sin (va0 ⊗ pi) ⊘ gamma2 va0)
 
--- term m of the sum over (1 + (−1)^m sv) Γ((m − va)/2) (√2 x)^m / m!, with r₀, fac₀ and pv₀ before it. The stop test leaves the weight gw out.
+-- term m of the sum over (1 + (−1)^m sv) Γ((m − va)/2) (√2 x)^m / m!, with r₀, fac₀ and pv₀ before it. The stop test
+-- leaves the weight gw out.
 unfoldable pub vvsaTurn : Float → Float → Float → ℕ → Float × Float × Float → Turn (Float × Float × Float)
 vvsaTurn x va sv m (r₀, fac₀, pv₀) =
     let gm = gamma2 (f½ ⊗ (whole m ⊖ va)) in
@@ -74,8 +75,8 @@ vvsaTurn x va sv m (r₀, fac₀, pv₀) =
     let pv = pv₀ ⊕ gw ⊗ r ⊗ gm in
     (lt (absolute (r ⊗ gm ⊘ pv)) seriesEpsilon, (r, fac, pv))
 
--- the first term: "pv = (sv + 1.0) * g1". At whole orders from 0 on g1 is gamma2's answer at a pole where va is even, and sv + 1 is 0 there
--- (proofs/Poles.antt, `first-pole-term`).
+-- the first term: "pv = (sv + 1.0) * g1". At whole orders from 0 on g1 is gamma2's answer at a pole where va is even,
+-- and sv + 1 is 0 there (proofs/Poles.antt, `first-pole-term`).
 abbrev pub vvsaFirst : Float → Float
 vvsaFirst va = (orderSine va ⊕ f1) ⊗ gamma2 (neg f½ ⊗ va)
 

@@ -1,6 +1,7 @@
 // dvsa and vvsa: D and V of the order va at a small argument x, by their series at 0. Each answers every f64.
 //
-// Method (DLMF 12.4.1 and 12.4.2, with the values at 0, 12.2.6 to 12.2.9). With t(m) = (√2 x)^m / m!, over m = 0 to 250,
+// Method (DLMF 12.4.1 and 12.4.2, with the values at 0, 12.2.6 to 12.2.9). With t(m) = (√2 x)^m / m!, over m = 0 to
+// 250,
 //     D:  2^(-va/2 - 1) e^(-x²/4) / Γ(-va) · Σ (-1)^m Γ((m - va)/2) t(m)
 //     V:  2^(-va/2) e^(-x²/4) / (2π) · Σ (1 + (-1)^m sin(-(va + 1/2) π)) Γ((m - va)/2) t(m)
 // A sum stops after a term below 1e-15 of it; V's test leaves the weight 1 ± sin out.

@@ -1,4 +1,5 @@
--- The two columns of a table, values and derivatives, in one list (01, "Splitting the order" and "Upward, downward, scaled").
+-- The two columns of a table, values and derivatives, in one list (01, "Splitting the order" and "Upward, downward,
+-- scaled").
 use mathlib.Core.List.{List}
 use Prim.Native.Nat.{ℕ, _+_, _*_}
 use mathlib.Core.Bool.{Bool, _&&_, cond}
@@ -21,7 +22,10 @@ roomIn n num slots = roomUpTo n num && leb 3 num && leb (2 * num) slots
 pub valuesIn : Function → Bool → Float → ℕ → ℕ
 valuesIn fn below f n = cond (ownRungTwo fn below f && eqb n 1) 3 (n + 1)
 
--- values from slot 0 on and derivatives 0 to n − 1 from slot num on, in a table that has room for both, and else nothing
+-- values from slot 0 on and derivatives 0 to n − 1 from slot num on, in a table that has room for both, and else
+-- nothing
 pub bothColumns : Sequence → Float → ℕ → ℕ → List Float → List Float
 bothColumns r u n num l =
-    cond (roomIn n num (length l)) (filled (derivativeAt r u n) 0 num n (filled (value r u n) 0 0 (valuesIn (r .function) (r .below) (r .f) n) l)) l
+    cond (roomIn n num (length l))
+    (filled (derivativeAt r u n) 0 num n (filled (value r u n) 0 0 (valuesIn (r .function) (r .below) (r .f) n) l))
+    l

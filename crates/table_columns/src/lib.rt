@@ -40,7 +40,12 @@ fn fill_derivatives(t: &mut [f64], sequence: Sequence, num: Rung, n: Rung)
 // Stores value 2 where it has its own formula and n is 1.
 fn store_own_two(t: &mut [f64], sequence: Sequence, n: Rung)
     requires { ⌜ 2 < length (now t) ⌝ }
-    ensures { λ _. ⌜ now (t .exit) ≡ cond (ownRungTwo (sequence .function) (sequence .below) (sequence .f) && eqb n 1) (set (now (t .entry)) 2 (sequence .x ⊗ slot (now (t .entry)) 1)) (now (t .entry)) ⌝ }
+    ensures { λ _. ⌜
+        now (t .exit)
+        ≡ cond (ownRungTwo (sequence .function) (sequence .below) (sequence .f) && eqb n 1)
+        (set (now (t .entry)) 2 (sequence .x ⊗ slot (now (t .entry)) 1))
+        (now (t .entry))
+        ⌝ }
 {
     let function = sequence.function;
     if recurrence::has_own_rung_two(function, sequence.below, sequence.f) {
@@ -63,8 +68,8 @@ fn has_table_room(n: Rung, num: Rung, slots: usize) -> bool
     false
 }
 
-// Stores values from slot 0 on, value 2 with its own formula too, and derivatives from slot num on, in one table. Where it is too short for num slots to
-// a column, or n is not 1 to 1000 and below num, nothing is stored.
+// Stores values from slot 0 on, value 2 with its own formula too, and derivatives from slot num on, in one table. Where
+// it is too short for num slots to a column, or n is not 1 to 1000 and below num, nothing is stored.
 pub fn fill_table(t: &mut [f64], sequence: Sequence, u: f64, n: Rung, num: Rung)
     ensures { λ _. ⌜ now (t .exit) ≡ bothColumns sequence u n num (now (t .entry)) ⌝ }
 {

@@ -1,5 +1,5 @@
--- The table calls of D and V (01, "A request comes in" and "Splitting the order"): which requests are refused, what a request answers, and what it leaves
--- of the table that was lent.
+-- The table calls of D and V (01, "A request comes in" and "Splitting the order"): which requests are refused, what a
+-- request answers, and what it leaves of the table that was lent.
 use mathlib.Core.List.{List}
 use mathlib.Core.Option.{Option}
 use Prim.Native.Nat.{ℕ, _-_, _*_}

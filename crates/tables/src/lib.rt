@@ -1,5 +1,5 @@
-// The table call of a function: values from slot 0 on and derivatives from slot num on, in a slice that the caller lends, of any length. It says whether the
-// request is refused, and else stores and answers.
+// The table call of a function: values from slot 0 on and derivatives from slot num on, in a slice that the caller
+// lends, of any length. It says whether the request is refused, and else stores and answers.
 
 ghost use mathlib.Core.Path.{_≡_};
 ghost use mathlib.Core.Option.{some};

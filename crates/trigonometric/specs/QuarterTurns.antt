@@ -1,4 +1,5 @@
--- 01, "Slips": "a sine at whole quarter turns not exactly ±1, which lets 1e300 into V". Here the sine is exactly 1 or −1.
+-- 01, "Slips": "a sine at whole quarter turns not exactly ±1, which lets 1e300 into V". Here the sine is exactly 1 or
+-- −1.
 use mathlib.Core.Path.{_≡_}
 use mathlib.Core.Bool.{cond}
 use Prim.Native.Nat.{_%_, _≤_}

@@ -1,8 +1,10 @@
-// sin and cos: y is q quarter turns and r, and the quadrant q modulo 4 says which of the two series at r it is, and with which sign.
+// sin and cos: y is q quarter turns and r, and the quadrant q modulo 4 says which of the two series at r it is, and
+// with which sign.
 
 ghost use mathlib.Core.Path.{_≡_};
 ghost use Prim.Native.Nat.{_≤_};
-ghost use Rattle.trigonometric.specs.Trigonometric.{quadrant, angleRest, trigSum, sine, cosine, sinIn, cosIn, sin, cos};
+ghost use Rattle.trigonometric.specs.Trigonometric.{quadrant, angleRest, trigSum, sine, cosine, sinIn, cosIn};
+ghost use Rattle.trigonometric.specs.Trigonometric.{sin, cos};
 use near::near;
 
 // q modulo 4, from 0 to 3, also for negative q.

@@ -1,5 +1,5 @@
--- The cut towards zero, with an answer for every f64 (IEEE 754; the Rust methods named). The cast to i32 is the library's `toSigned 31`: cut towards zero,
--- saturating, and 0 for a NaN.
+-- The cut towards zero, with an answer for every f64 (IEEE 754; the Rust methods named). The cast to i32 is the
+-- library's `toSigned 31`: cut towards zero, saturating, and 0 for a NaN.
 use Prim.Native.Nat.{_*_, _/_}
 use lib.Ieee.{Float, nan, inf, fin, binary64, up, down, round}
 use Rattle.floats.specs.Operations.{_⊖_}

@@ -38,15 +38,18 @@ module _ (v x : Float) where
   unfolding refusal
   order-below a b c = rw (a, b, c)
 
-  pub order-above : isNan v ≡ false → isNan x ≡ false → lt (neg orderLimit) v ≡ true → le v (neg f20) ≡ false → refusal v x ≡ 4
+  pub order-above : isNan v ≡ false → isNan x ≡ false → lt (neg orderLimit) v ≡ true → le v (neg f20) ≡ false
+      → refusal v x ≡ 4
   unfolding refusal
   order-above a b c d = rw (a, b, c, d)
 
-  pub argument-infinite : isNan v ≡ false → isNan x ≡ false → lt (neg orderLimit) v ≡ true → le v (neg f20) ≡ true → infinite x ≡ true → refusal v x ≡ 5
+  pub argument-infinite : isNan v ≡ false → isNan x ≡ false → lt (neg orderLimit) v ≡ true → le v (neg f20) ≡ true
+      → infinite x ≡ true → refusal v x ≡ 5
   unfolding refusal
   argument-infinite a b c d e = rw (a, b, c, d, e)
 
-  pub accepted : isNan v ≡ false → isNan x ≡ false → lt (neg orderLimit) v ≡ true → le v (neg f20) ≡ true → infinite x ≡ false → refusal v x ≡ 0
+  pub accepted : isNan v ≡ false → isNan x ≡ false → lt (neg orderLimit) v ≡ true → le v (neg f20) ≡ true
+      → infinite x ≡ false → refusal v x ≡ 0
   unfolding refusal
   accepted a b c d e = rw (a, b, c, d, e)
 

@@ -1,4 +1,5 @@
--- What each definition of Exponential.antt says. Only this crate's own proofs cite these laws: the crates above go by promise.
+-- What each definition of Exponential.antt says. Only this crate's own proofs cite these laws: the crates above go by
+-- promise.
 use mathlib.Core.Path.{_≡_, refl}
 use mathlib.Core.Bool.{false, cond}
 use Prim.Native.Nat.{ℕ, _-_}

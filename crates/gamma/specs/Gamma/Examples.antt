@@ -1,5 +1,5 @@
--- Values of gamma2, proved by computing them: one list, and one theorem over it. The sine is shut here, so a value that needs it stands in proofs/Laws.antt, by
--- trigonometric's own laws.
+-- Values of gamma2, proved by computing them: one list, and one theorem over it. The sine is shut here, so a value that
+-- needs it stands in proofs/Laws.antt, by trigonometric's own laws.
 use mathlib.Core.Path.{_≡_, refl}
 use Prim.Native.Nat.{_^_}
 use mathlib.Core.Bool.{true, false}
@@ -10,7 +10,8 @@ use Rattle.signs.specs.Signs.{absolute, infinite}
 use Rattle.truncation.specs.Truncation.{truncated, fraction}
 use Rattle.floats.specs.Loops.{countUp}
 use Rattle.gamma.specs.Constants.{poleValue}
-use Rattle.gamma.specs.Gamma.{productTurn, factorial, falling, polynomial, reciprocalSeries, gammaNear, gammaAbove, gamma2}
+use Rattle.gamma.specs.Gamma.{productTurn, factorial, falling, polynomial, reciprocalSeries, gammaNear}
+use Rattle.gamma.specs.Gamma.{gammaAbove, gamma2}
 
 -- gamma2 at its argument, and its value there
 abbrev pub examples : List (Float × Float)

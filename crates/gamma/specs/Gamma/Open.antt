@@ -8,7 +8,8 @@ use Rattle.truncation.specs.Truncation.{truncated}
 use Rattle.gamma.specs.Constants.{poleValue}
 use Rattle.gamma.specs.Gamma.{lastOf, factorial, gammaNear, gammaAbove, reflected, gamma2}
 
-pub gamma2-whole : (x : Float) → eq x (truncated x) ≡ true → lt f0 x ≡ true → gamma2 x ≡ factorial (lastOf (toSigned 31 (x ⊖ f1)))
+pub gamma2-whole : (x : Float) → eq x (truncated x) ≡ true → lt f0 x ≡ true
+    → gamma2 x ≡ factorial (lastOf (toSigned 31 (x ⊖ f1)))
 unfolding gamma2
 gamma2-whole x w p = rw (w, p)
 
@@ -20,10 +21,12 @@ pub gamma2-near : (x : Float) → eq x (truncated x) ≡ false → lt f1 (absolu
 unfolding gamma2
 gamma2-near x w a = rw (w, a)
 
-pub gamma2-above : (x : Float) → eq x (truncated x) ≡ false → lt f1 (absolute x) ≡ true → lt x f0 ≡ false → gamma2 x ≡ gammaAbove (absolute x)
+pub gamma2-above : (x : Float) → eq x (truncated x) ≡ false → lt f1 (absolute x) ≡ true → lt x f0 ≡ false
+    → gamma2 x ≡ gammaAbove (absolute x)
 unfolding gamma2
 gamma2-above x w a n = rw (w, a, n)
 
-pub gamma2-below : (x : Float) → eq x (truncated x) ≡ false → lt f1 (absolute x) ≡ true → lt x f0 ≡ true → gamma2 x ≡ reflected x (gammaAbove (absolute x))
+pub gamma2-below : (x : Float) → eq x (truncated x) ≡ false → lt f1 (absolute x) ≡ true → lt x f0 ≡ true
+    → gamma2 x ≡ reflected x (gammaAbove (absolute x))
 unfolding gamma2
 gamma2-below x w a n = rw (w, a, n)

@@ -1,4 +1,5 @@
--- Values of log1pmx, of the correction and of the ratio, proved by computing them: one list, and one theorem over it. At the zeros all 498 turns are taken:
+-- Values of log1pmx, of the correction and of the ratio, proved by computing them: one list, and one theorem over it.
+-- At the zeros all 498 turns are taken:
 -- these two stand in proofs/Zeros.antt.
 use mathlib.Core.Path.{_≡_, refl}
 use mathlib.Core.List.{List, [], _∷_, map}
@@ -29,5 +30,7 @@ abbrev pub values : List Float
 values = map (λ (e : Float × Float). e .1) examples
 
 pub examples-hold : computed ≡ values
-unfolding log1pmxTurn log1pmxSum log1pmx lgamStirlingCorr lnGammaRatio polevlFrom polevl absolute countUp add mul div neg lt ofBits decimal ofInt
+unfolding log1pmxTurn log1pmxSum log1pmx lgamStirlingCorr lnGammaRatio polevlFrom polevl absolute countUp
+
+unfolding add mul div neg lt ofBits decimal ofInt
 examples-hold = refl

@@ -12,13 +12,17 @@ use Rattle.floats.specs.declared.Function.{Function}
 use Rattle.floats.specs.declared.Function.the-variants.{D, «V»}
 use Rattle.branches.specs.Branches.{runsForward}
 use Rattle.table_refusals.specs.Refusals.{refusalBy}
-use Rattle.ladder_machine.specs.Machine.{Request, Inputs, request, Feed, tooShort, refusal, Machine, empty, holds, bitsOf, holding, refuses, repeats, climbs, startsOver, written, stays, goesOn, startsAt, effect, sameFunction, sameRungs, mayClimb, caseBy, caseOf, verdictOn, verdict, heldThen, next, verdicts, after}
+use Rattle.ladder_machine.specs.Machine.{Request, Inputs, request, Feed, tooShort, refusal, Machine, empty, holds}
+use Rattle.ladder_machine.specs.Machine.{bitsOf, holding, refuses, repeats, climbs, startsOver, written, stays}
+use Rattle.ladder_machine.specs.Machine.{goesOn, startsAt, effect, sameFunction, sameRungs, mayClimb, caseBy}
+use Rattle.ladder_machine.specs.Machine.{caseOf, verdictOn, verdict, heldThen, next, verdicts, after}
 
 pub tooShort-is : (n values derivatives : ℕ) → tooShort n values derivatives ≡ (ltb values (n + 1) || ltb derivatives n)
 unfolding tooShort
 tooShort-is n values derivatives = refl
 
-pub refusal-is : (q : Request) (values derivatives : ℕ) → refusal q values derivatives ≡ refusalBy (q .v) (q .x) (tooShort (topRung (q .v)) values derivatives)
+pub refusal-is : (q : Request) (values derivatives : ℕ)
+    → refusal q values derivatives ≡ refusalBy (q .v) (q .x) (tooShort (topRung (q .v)) values derivatives)
 unfolding refusal
 refusal-is q values derivatives = refl
 
@@ -26,7 +30,8 @@ pub bitsOf-is : (x : Float) → bitsOf x ≡ toBits binary64 x
 unfolding bitsOf
 bitsOf-is x = refl
 
-pub holding-is : (q : Request) (n : ℕ) → holding q n ≡ holds (q .function) (below (q .v)) (bitsOf (q .x)) (bitsOf (fractionOf (q .v))) n
+pub holding-is : (q : Request) (n : ℕ)
+    → holding q n ≡ holds (q .function) (below (q .v)) (bitsOf (q .x)) (bitsOf (fractionOf (q .v))) n
 unfolding holding
 holding-is q n = refl
 
@@ -62,11 +67,13 @@ pub same-V-V : sameFunction «V» «V» ≡ true
 unfolding sameFunction
 same-V-V = refl
 
-pub sameRungs-is : (fn : Function) (s : Bool) (x f : ℕ) (fn' : Function) (s' : Bool) (x' f' : ℕ) → sameRungs fn s x f fn' s' x' f' ≡ (sameFunction fn fn' && Bool·beq s s' && eqb x x' && eqb f f')
+pub sameRungs-is : (fn : Function) (s : Bool) (x f : ℕ) (fn' : Function) (s' : Bool) (x' f' : ℕ)
+    → sameRungs fn s x f fn' s' x' f' ≡ (sameFunction fn fn' && Bool·beq s s' && eqb x x' && eqb f f')
 unfolding sameRungs
 sameRungs-is fn s x f fn' s' x' f' = refl
 
-pub mayClimb-is : (fn : Function) (s : Bool) (x f m n : ℕ) → mayClimb fn s x f m n ≡ (ltb m n && leb 2 m && runsForward fn s (bits x) (whole m ⊕ bits f))
+pub mayClimb-is : (fn : Function) (s : Bool) (x f m n : ℕ)
+    → mayClimb fn s x f m n ≡ (ltb m n && leb 2 m && runsForward fn s (bits x) (whole m ⊕ bits f))
 unfolding mayClimb
 mayClimb-is fn s x f m n = refl
 
@@ -74,15 +81,22 @@ pub caseBy-empty : (fn' : Function) (s' : Bool) (x' f' n : ℕ) → caseBy empty
 unfolding caseBy
 caseBy-empty fn' s' x' f' n = refl
 
-pub caseBy-holds : (fn : Function) (s : Bool) (x f m : ℕ) (fn' : Function) (s' : Bool) (x' f' n : ℕ) → caseBy (holds fn s x f m) fn' s' x' f' n ≡ cond (sameRungs fn s x f fn' s' x' f') (cond (eqb m n) (repeats n) (cond (mayClimb fn s x f m n) (climbs m n) (startsOver n))) (startsOver n)
+pub caseBy-holds : (fn : Function) (s : Bool) (x f m : ℕ) (fn' : Function) (s' : Bool) (x' f' n : ℕ)
+    → caseBy (holds fn s x f m) fn' s' x' f' n
+    ≡ cond (sameRungs fn s x f fn' s' x' f')
+    (cond (eqb m n) (repeats n) (cond (mayClimb fn s x f m n) (climbs m n) (startsOver n)))
+    (startsOver n)
 unfolding caseBy
 caseBy-holds fn s x f m fn' s' x' f' n = refl
 
-pub caseOf-is : (m : Machine) (q : Request) → caseOf m q ≡ caseBy m (q .function) (below (q .v)) (bitsOf (q .x)) (bitsOf (fractionOf (q .v))) (topRung (q .v))
+pub caseOf-is : (m : Machine) (q : Request)
+    → caseOf m q ≡ caseBy m (q .function) (below (q .v)) (bitsOf (q .x)) (bitsOf (fractionOf (q .v))) (topRung (q .v))
 unfolding caseOf
 caseOf-is m q = refl
 
-pub verdictOn-request : (m : Machine) (q : Request) (values derivatives : ℕ) → verdictOn m (request q) values derivatives ≡ cond (eqb (refusal q values derivatives) 0) (caseOf m q) (refuses (refusal q values derivatives))
+pub verdictOn-request : (m : Machine) (q : Request) (values derivatives : ℕ)
+    → verdictOn m (request q) values derivatives
+    ≡ cond (eqb (refusal q values derivatives) 0) (caseOf m q) (refuses (refusal q values derivatives))
 unfolding verdictOn
 verdictOn-request m q values derivatives = refl
 
@@ -110,7 +124,8 @@ pub verdicts-nil : (m : Machine) → verdicts m [] ≡ []
 unfolding verdicts
 verdicts-nil m = refl
 
-pub verdicts-cons : (m : Machine) (d : Feed) (ds : List Feed) → verdicts m (d ∷ ds) ≡ (verdict m d ∷ verdicts (next m d) ds)
+pub verdicts-cons : (m : Machine) (d : Feed) (ds : List Feed)
+    → verdicts m (d ∷ ds) ≡ (verdict m d ∷ verdicts (next m d) ds)
 unfolding verdicts
 verdicts-cons m d ds = refl
 

@@ -1,5 +1,5 @@
--- Values of ln and of powers, proved by computing them: one list, and one theorem over it. exp is shut here, so the powers that need it
--- stand in proofs/Laws.antt, by exponential's own laws.
+-- Values of ln and of powers, proved by computing them: one list, and one theorem over it. exp is shut here, so the
+-- powers that need it stand in proofs/Laws.antt, by exponential's own laws.
 use mathlib.Core.Path.{_≡_, refl}
 use mathlib.Core.Bool.{true, false}
 use mathlib.Core.List.{List, [], _∷_, map}

@@ -1,4 +1,5 @@
--- What each definition of Logarithm.antt says. Only this crate's own proofs cite these laws: the crates above go by promise.
+-- What each definition of Logarithm.antt says. Only this crate's own proofs cite these laws: the crates above go by
+-- promise.
 use mathlib.Core.Path.{_≡_, refl}
 use mathlib.Core.Bool.{Bool, true, false, cond}
 use Prim.Native.Nat.{ℕ, zero, suc, _-_}
@@ -14,7 +15,8 @@ pub lnSum-is : (z : Float) → lnSum z ≡ downTo (lnTerm z) 0 13 f0
 unfolding lnSum
 lnSum-is z = refl
 
-pub lnOfParts-is : (m : Float) (e : ℤ) → lnOfParts m e ≡ cond (le root2 m) (lnNearOne (m ⊗ f½) (float (e +ℤ pos 1))) (lnNearOne m (float e))
+pub lnOfParts-is : (m : Float) (e : ℤ)
+    → lnOfParts m e ≡ cond (le root2 m) (lnNearOne (m ⊗ f½) (float (e +ℤ pos 1))) (lnNearOne m (float e))
 unfolding lnOfParts
 lnOfParts-is m e = refl
 
@@ -34,7 +36,9 @@ pub ln-negative : (n : ℕ) (e : ℤ) → ln (fin true (suc n) e) ≡ nan
 unfolding ln
 ln-negative n e = refl
 
-pub ln-positive : (n : ℕ) (e : ℤ) → ln (fin false (suc n) e) ≡ lnOfParts (fin false (suc n) (negℤ (pos (size (suc n) - 1)))) (e +ℤ pos (size (suc n) - 1))
+pub ln-positive : (n : ℕ) (e : ℤ)
+    → ln (fin false (suc n) e)
+    ≡ lnOfParts (fin false (suc n) (negℤ (pos (size (suc n) - 1)))) (e +ℤ pos (size (suc n) - 1))
 unfolding ln
 ln-positive n e = refl
 

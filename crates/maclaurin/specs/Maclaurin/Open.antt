@@ -12,7 +12,8 @@ module _ (a x c0 c1 e : Float) where
   unfolding refusal
   with-nan h = rw (h)
 
-  pub with-infinity : anyInput isNan a x c0 c1 e ≡ false → anyInput infinite a x c0 c1 e ≡ true → refusal a x c0 c1 e ≡ 5
+  pub with-infinity : anyInput isNan a x c0 c1 e ≡ false → anyInput infinite a x c0 c1 e ≡ true
+      → refusal a x c0 c1 e ≡ 5
   unfolding refusal
   with-infinity h i = rw (h, i)
 

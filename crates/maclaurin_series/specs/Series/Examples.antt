@@ -1,5 +1,5 @@
--- Values of the series, proved by computing them: one list, and one theorem over it. exp is shut here, so pairs stand in proofs/Laws.antt, by the
--- law of mul_exp.
+-- Values of the series, proved by computing them: one list, and one theorem over it. exp is shut here, so pairs stand
+-- in proofs/Laws.antt, by the law of mul_exp.
 use mathlib.Core.Path.{_≡_, refl}
 use mathlib.Core.List.{List, [], _∷_, map}
 use lib.Ieee.{Float, isNan, add, mul, div, neg, lt, le, eq, ofBits, ofInt}

@@ -12,6 +12,7 @@ module _ (a x c0 c1 e : Float) where
   unfolding pbMaclaurin
   short h = rw (h)
 
-  pub long : lt (absolute x) shortFormLimit ≡ false → pbMaclaurin a x c0 c1 e ≡ (mulExp (series a x c0 c1 .4) e, mulExp (series a x c0 c1 .5) e)
+  pub long : lt (absolute x) shortFormLimit ≡ false
+      → pbMaclaurin a x c0 c1 e ≡ (mulExp (series a x c0 c1 .4) e, mulExp (series a x c0 c1 .5) e)
   unfolding pbMaclaurin
   long h = rw (h)

@@ -12,7 +12,8 @@ unfolding rootDigits
 rootDigits-none n = refl
 
 pub rootDigits-one-more : (d n : ℕ)
-    → rootDigits (suc d) n ≡ (let q = rootDigits d (n / 4) in cond (leb ((2 * q + 1) * (2 * q + 1)) n) (2 * q + 1) (2 * q))
+    → rootDigits (suc d) n
+    ≡ (let q = rootDigits d (n / 4) in cond (leb ((2 * q + 1) * (2 * q + 1)) n) (2 * q + 1) (2 * q))
 unfolding rootDigits
 rootDigits-one-more d n = refl
 
@@ -21,7 +22,8 @@ unfolding wholeRoot
 wholeRoot-is n = refl
 
 pub roundedRoot-is : (x c : ℕ)
-    → roundedRoot x c ≡ (let q = wholeRoot (x / 4 ^ c) in nearest q (compare (4 * x) ((2 * q + 1) * (2 * q + 1) * 4 ^ c)))
+    → roundedRoot x c
+    ≡ (let q = wholeRoot (x / 4 ^ c) in nearest q (compare (4 * x) ((2 * q + 1) * (2 * q + 1) * 4 ^ c)))
 unfolding roundedRoot
 roundedRoot-is x c = refl
 

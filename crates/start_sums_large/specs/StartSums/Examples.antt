@@ -1,4 +1,5 @@
--- Values of the sums in dvla and vvla, proved by computing them: one list, and one theorem over it. gamma2 and the elementary functions are shut here.
+-- Values of the sums in dvla and vvla, proved by computing them: one list, and one theorem over it. gamma2 and the
+-- elementary functions are shut here.
 use mathlib.Core.Path.{_≡_, refl}
 use mathlib.Core.List.{List, [], _∷_, map}
 use lib.Ieee.{Float, add, sub, mul, div, neg, lt, ofBits, ofInt}

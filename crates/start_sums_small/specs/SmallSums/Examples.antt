@@ -1,5 +1,5 @@
--- Values of dvsa and vvsa, proved by computing them: one list, and one theorem over it. gamma2 and the elementary functions are shut here, so the values that
--- need one of them stand in proofs/, by the laws of their own crates.
+-- Values of dvsa and vvsa, proved by computing them: one list, and one theorem over it. gamma2 and the elementary
+-- functions are shut here, so the values that need one of them stand in proofs/, by the laws of their own crates.
 use mathlib.Core.Path.{_≡_, refl}
 use mathlib.Core.List.{List, [], _∷_, map}
 use lib.Ieee.{Float, add, sub, mul, neg, le, eq, ofBits, ofInt, toSigned}

@@ -5,7 +5,8 @@ use lib.Ieee.{Float, eq, neg}
 use Rattle.floats.specs.Operations.{_⊗_, f0, f½}
 use Rattle.trigonometric.specs.QuarterTurns.{orderSine}
 use Rattle.gamma.specs.Gamma.{gamma2}
-use Rattle.start_sums_small.specs.SmallSums.{ep, dvsaAtZero, dvsaSum, dvsaFactor, dvsa, vvsaAtZero, vvsaFirst, vvsaSum, vvsaFactor, vvsa}
+use Rattle.start_sums_small.specs.SmallSums.{ep, dvsaAtZero, dvsaSum, dvsaFactor, dvsa, vvsaAtZero, vvsaFirst}
+use Rattle.start_sums_small.specs.SmallSums.{vvsaSum, vvsaFactor, vvsa}
 
 -- ---- dvsa
 
@@ -17,7 +18,8 @@ pub dvsa-at-zero : (x va : Float) → eq va f0 ≡ false → eq x f0 ≡ true �
 unfolding dvsa
 dvsa-at-zero x va o a = rw (o, a)
 
-pub dvsa-series : (x va : Float) → eq va f0 ≡ false → eq x f0 ≡ false → dvsa x va ≡ dvsaSum x va (gamma2 (neg f½ ⊗ va)) .1 ⊗ dvsaFactor x va
+pub dvsa-series : (x va : Float) → eq va f0 ≡ false → eq x f0 ≡ false
+    → dvsa x va ≡ dvsaSum x va (gamma2 (neg f½ ⊗ va)) .1 ⊗ dvsaFactor x va
 unfolding dvsa
 dvsa-series x va o a = rw (o, a)
 
@@ -27,6 +29,7 @@ pub vvsa-at-zero : (x va : Float) → eq x f0 ≡ true → vvsa x va ≡ vvsaAtZ
 unfolding vvsa
 vvsa-at-zero x va a = rw a
 
-pub vvsa-series : (x va : Float) → eq x f0 ≡ false → vvsa x va ≡ vvsaSum x va (orderSine va) (vvsaFirst va) .2 ⊗ vvsaFactor x va
+pub vvsa-series : (x va : Float) → eq x f0 ≡ false
+    → vvsa x va ≡ vvsaSum x va (orderSine va) (vvsaFirst va) .2 ⊗ vvsaFactor x va
 unfolding vvsa
 vvsa-series x va a = rw a

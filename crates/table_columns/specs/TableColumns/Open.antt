@@ -15,10 +15,13 @@ use Rattle.table_columns.specs.TableColumns.{roomIn, valuesIn, bothColum
 
 pub bothColumns-is : (r : Sequence) (u : Float) (n num : ℕ) (l : List Float)
     → bothColumns r u n num l
-    ≡ cond (roomIn n num (length l)) (filled (derivativeAt r u n) 0 num n (filled (value r u n) 0 0 (valuesIn (r .function) (r .below) (r .f) n) l)) l
+    ≡ cond (roomIn n num (length l))
+    (filled (derivativeAt r u n) 0 num n (filled (value r u n) 0 0 (valuesIn (r .function) (r .below) (r .f) n) l))
+    l
 unfolding bothColumns
 bothColumns-is r u n num l = refl
 
-pub valuesIn-is : (fn : Function) (below : Bool) (f : Float) (n : ℕ) → valuesIn fn below f n ≡ cond (ownRungTwo fn below f && eqb n 1) 3 (n + 1)
+pub valuesIn-is : (fn : Function) (below : Bool) (f : Float) (n : ℕ)
+    → valuesIn fn below f n ≡ cond (ownRungTwo fn below f && eqb n 1) 3 (n + 1)
 unfolding valuesIn
 valuesIn-is fn below f n = refl

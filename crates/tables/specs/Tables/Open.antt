@@ -20,7 +20,8 @@ pub refusal-is : (v x : Float) (slots : ℕ) → refusal v x slots ≡ refusalBy
 unfolding refusal
 refusal-is v x slots = refl
 
-pub valuesWritten-is : (fn : Function) (v : Float) → valuesWritten fn v ≡ valuesIn fn (below v) (fractionOf v) (topRung v)
+pub valuesWritten-is : (fn : Function) (v : Float)
+    → valuesWritten fn v ≡ valuesIn fn (below v) (fractionOf v) (topRung v)
 unfolding valuesWritten
 valuesWritten-is fn v = refl
 
@@ -34,11 +35,15 @@ module _ (fn : Function) (v x : Float) where
   derivativeOf-is = refl
 
   pub tableAfter-is : (l : List Float)
-      → tableAfter fn v x l ≡ cond (eqb (refusal v x (length l)) 0) (filled (derivativeOf fn v x) 0 (num v) (topRung v) (filled (valueOf fn v x) 0 0 (valuesWritten fn v) l)) l
+      → tableAfter fn v x l
+      ≡ cond (eqb (refusal v x (length l)) 0)
+      (filled (derivativeOf fn v x) 0 (num v) (topRung v) (filled (valueOf fn v x) 0 0 (valuesWritten fn v) l)) l
   unfolding tableAfter
   tableAfter-is l = refl
 
   pub answer-is : (slots : ℕ)
-      → answer fn v x slots ≡ cond (eqb (refusal v x slots) 0) (some (valueOf fn v x (topRung v - 1), derivativeOf fn v x (topRung v - 1))) none
+      → answer fn v x slots
+      ≡ cond (eqb (refusal v x slots) 0)
+      (some (valueOf fn v x (topRung v - 1), derivativeOf fn v x (topRung v - 1))) none
   unfolding answer answerBy
   answer-is slots = refl

@@ -1,11 +1,13 @@
--- What each definition of Trigonometric.antt says. Only this crate's own proofs cite these laws: the crates above go by promise.
+-- What each definition of Trigonometric.antt says. Only this crate's own proofs cite these laws: the crates above go by
+-- promise.
 use mathlib.Core.Path.{_≡_, refl}
 use Prim.Native.Nat.{ℕ, _-_, _%_}
 use lib.IntN.{pos, negsuc}
 use lib.Ieee.{Float, neg}
 use Rattle.floats.specs.Operations.{_⊗_, f1}
 use Rattle.floats.specs.Loops.{downTo}
-use Rattle.trigonometric.specs.Trigonometric.{quarters, angleRest, trigTerm, trigSum, sine, cosine, quadrant, byQuadrant, sinIn, cosIn, angleOrNan, sin, cos}
+use Rattle.trigonometric.specs.Trigonometric.{quarters, angleRest, trigTerm, trigSum, sine, cosine, quadrant}
+use Rattle.trigonometric.specs.Trigonometric.{byQuadrant, sinIn, cosIn, angleOrNan, sin, cos}
 
 pub trigSum-is : (less : ℕ) (z : Float) → trigSum less z ≡ downTo (trigTerm less z) 1 9 f1
 unfolding trigSum

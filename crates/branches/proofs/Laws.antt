@@ -14,7 +14,7 @@ use Rattle.recurrence.proofs.Laws.{ownRungTwo-D, ownRungTwo-V-above}
 use Rattle.branches.specs.declared.Branch.{Branch}
 use Rattle.branches.specs.declared.Branch.the-variants.{Forward, Downward, Scaled}
 use Rattle.branches.specs.Constants.{f7·5, f10}
-use Rattle.branches.specs.Branches.{branchOf, isForward, runsForward}
+use Rattle.branches.specs.Branches.{runsDown, branchOf, isForward, runsForward}
 use Rattle.branches.specs.Branches.Open.{branchOf-D-above, branchOf-D-below, branchOf-V-above, branchOf-V-below, isForward-Forward, isForward-Downward, isForward-Scaled, orderIsLow-is, runsDown-is, runsForward-is}
 
 -- D from order 0 on, and V below 0
@@ -29,6 +29,22 @@ pub own-forward : (fn : Function) (below : Bool) (x u f : Float) → ownRungTwo 
 own-forward D below x u f e = absurd (true≢false (sym e ∙ ownRungTwo-D below f))
 own-forward «V» false x u f e = absurd (true≢false (sym e ∙ ownRungTwo-V-above f))
 own-forward «V» true x u f e = branchOf-V-below x u
+
+-- V's scaled branch is at x > 7.5 only
+isScaled : Branch → Bool
+isScaled Forward = false
+isScaled Downward = false
+isScaled Scaled = true
+
+pub V-scaled : (below : Bool) (x u : Float) → branchOf «V» below x u ≡ Scaled → lt f7·5 x ≡ true
+unfolding isScaled
+V-scaled true x u e = absurd (true≢false (ap isScaled (sym e ∙ branchOf-V-below x u)))
+V-scaled false x u e = go (runsDown x u) (lt f7·5 x) (sym (branchOf-V-above x u) ∙ e)
+  where
+    go : (d t : Bool) → cond d Downward (cond t Scaled Forward) ≡ Scaled → t ≡ true
+    go true t e = absurd (true≢false (ap isScaled (sym e)))
+    go false true e = refl
+    go false false e = absurd (true≢false (ap isScaled (sym e)))
 
 module _ (fn : Function) (s : Bool) (x u : Float) where
   -- what the test says

@@ -9,6 +9,7 @@ use Rattle.branches.specs.declared.Branch.{Branch}
 use Rattle.branches.specs.declared.Branch.the-variants.{Forward, Downward, Scaled}
 use Rattle.branches.specs.Constants.{f7·5, f10}
 pub mod Open
+pub mod Examples
 
 -- the size of x is at most 10, and u at most x²/2
 pub orderIsLow : Float → Float → Bool
@@ -18,7 +19,7 @@ orderIsLow x u = le (absolute x) f10 && le u (f½ ⊗ x ⊗ x)
 pub runsDown : Float → Float → Bool
 runsDown x u = le f0 x && le x f7·5 || orderIsLow x u
 
--- 01's list of forward branches; the others by the source's tests, in its order
+-- the source's chain of tests; 01's list of the forward branches is in Forward.antt
 pub branchOf : Function → Bool → Float → Float → Branch
 branchOf D false x u = Forward
 branchOf D true x u = cond (le x f0) Forward (cond (le x f2) Downward Scaled)

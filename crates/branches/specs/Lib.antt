@@ -1,2 +1,3 @@
 pub mod Constants
 pub mod Branches
+pub mod Forward

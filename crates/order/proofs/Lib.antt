@@ -2,3 +2,4 @@ pub mod Steps
 pub mod Sizes
 pub mod Facts
 pub mod Laws
+pub mod Tests

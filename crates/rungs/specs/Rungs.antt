@@ -19,6 +19,7 @@ use Rattle.branches.specs.Constants.{f7·5}
 use Rattle.rungs.specs.declared.Sequence.{Sequence}
 use Rattle.rungs.specs.Constants.{f5·8, seedD, seedV}
 pub mod Open
+pub mod Examples
 
 -- ---- upward
 

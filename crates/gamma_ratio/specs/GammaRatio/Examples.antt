@@ -31,6 +31,5 @@ values = map (λ (e : Float × Float). e .1) examples
 
 pub examples-hold : computed ≡ values
 unfolding log1pmxTurn log1pmxSum log1pmx lgamStirlingCorr lnGammaRatio polevlFrom polevl absolute countUp
-
-unfolding add mul div neg lt ofBits decimal ofInt
+    add mul div neg lt ofBits decimal ofInt
 examples-hold = refl

@@ -1,0 +1,159 @@
+-- The definitions are the source's text, in the records of specs/Source.antt.
+use mathlib.Core.Path.{_≡_, refl, sym, ap, _∙_, subst}
+use mathlib.Core.Bool.{Bool, true, false}
+use Prim.Native.Nat.{ℕ, zero, suc, _+_, _≤_}
+use native.Mathlib.Omega.{arith}
+use lib.Dec.{T}
+use lib.IntN.{ℤ, pos, negℤ, natAbs}
+use lib.Ieee.{Float, nan, inf, fin, neg, lt, le, ofBits, ofInt, toSigned}
+use lib.Ieee.Bits.{is-false}
+use Rattle.floats.specs.Operations.{_⊕_, _⊖_, float, whole, f0, f1}
+use Rattle.floats.specs.Facts.{signedInt}
+use Rattle.floats.proofs.Comparison.{float-lt-total, lt-no-nan}
+use Rattle.signs.specs.Signs.{absolute}
+use Rattle.floats.specs.declared.Function.the-variants.{D, «V»}
+use Rattle.order.specs.Order.{below, shifted, fractionOf, topRung, num}
+use Rattle.order.specs.Facts.{InRange, Split}
+use Rattle.order.proofs.Facts.{split-facts, wholePart-signed}
+use Rattle.order.proofs.Laws.{joined-below}
+use Rattle.order.proofs.Tests.{cut-above, cut-below, one-or-more, zero-up, zero-down, fraction-plus-zero, fraction-less-zero}
+use Rattle.recurrence.specs.Recurrence.{stepDown}
+use Rattle.branches.specs.Constants.{f7·5}
+use Rattle.branches.proofs.Laws.{V-scaled}
+use Rattle.rungs.specs.declared.Sequence.{Sequence}
+use Rattle.rungs.specs.Constants.{f5·8-is}
+use Rattle.rungs.specs.Rungs.{startSum, descent, seed, rawRung}
+use Rattle.rungs.specs.Rungs.Open.{startSum-D-small, startSum-D-large, startSum-V-small, startSum-V-large, smallLimit-D, smallLimit-V}
+use Rattle.rungs.specs.Rungs.Open.{startValue-is, nextOrder-above, nextOrder-below, topOrders-D, topOrders-V, topRungs-is}
+use Rattle.rungs.specs.Source.{sequence, SideOfShifted, StartLoops, topOfD, TopOfD, TopOfV, ScaledStart, ScaledColumn, AsSource}
+use Rattle.rungs.proofs.Laws.{raw-rung, descent-above, descent-top, descent-step}
+
+-- ---- the side, and the start loops
+
+one-is : whole 1 ≡ f1
+unfolding ofInt ofBits
+one-is = refl
+
+module _ (v : Float) (r : InRange v) where
+  abbrev facts : Split (below v) (shifted v) (fractionOf v) (topRung v) (num v)
+  facts = split-facts v r
+
+  side-of-shifted : SideOfShifted v
+  side-of-shifted = record {
+    up = zero-up (below v) (shifted v) (fractionOf v) (topRung v) (num v) facts;
+    down = zero-down (below v) (shifted v) (fractionOf v) (topRung v) (num v) facts;
+  }
+
+  start-loops : StartLoops v
+  start-loops =
+      let f = fractionOf v in
+      record {
+        turns = facts .least;
+        up = (fraction-plus-zero (below v) (shifted v) f (topRung v) (num v) facts, ap (λ (w : Float). f ⊕ w) one-is ∙ sym (nextOrder-above f));
+        down = (fraction-less-zero (below v) (shifted v) f (topRung v) (num v) facts, ap (λ (w : Float). f ⊖ w) one-is ∙ sym (nextOrder-below f));
+      }
+
+-- ---- the top rungs
+
+not-zero : (n : ℕ) → 1 ≤ n → negℤ (pos n) ≡ pos 0 → ⊥
+not-zero zero h e = absurd (omega arith)
+not-zero (suc n) h e = let z : suc n ≡ 0 = ap natAbs e in omega arith
+
+module _ (v x : Float) (r : InRange v) where
+  abbrev split : Split (below v) (shifted v) (fractionOf v) (topRung v) (num v)
+  split = split-facts v r
+
+  on-side : (s : Bool) → below v ≡ s → Split s (shifted v) (fractionOf v) (topRung v) (num v)
+  on-side s e = subst (λ (b : Bool). Split b (shifted v) (fractionOf v) (topRung v) (num v)) e split
+
+  -- N + f is u
+  top-is : topOfD v ≡ shifted v
+  top-is = ap (λ (z : ℤ). float z ⊕ fractionOf v) (wholePart-signed v r) ∙ split .joined
+
+  top-of-D : below v ≡ true → TopOfD v x
+  top-of-D s =
+      let u = shifted v in
+      let f = fractionOf v in
+      let n = topRung v in
+      let facts = on-side true s in
+      let same : neg (whole n) ⊕ f ≡ topOfD v = joined-below u f n (num v) facts ∙ sym top-is in
+      record {
+        kept = λ e. not-zero n (facts .least) (sym (wholePart-signed v r ∙ ap (λ (b : Bool). signedInt b n) s) ∙ e);
+        slot = ap (λ (w : Float). toSigned 31 (neg w)) top-is ∙ cut-below u f n (num v) facts;
+        rungs =
+            topRungs-is (sequence D (below v) x f) u n
+            ∙ ap (λ (o : Float × Float). (startSum D false x (o .0), startSum D false x (o .1))) (topOrders-D u f n)
+            ∙ ap (λ (w : Float). (startSum D false x (w ⊕ f1), startSum D false x w)) same
+            ∙ rw (startSum-D-small x (topOfD v ⊕ f1), startSum-D-small x (topOfD v));
+      }
+
+  top-of-V : below v ≡ false → TopOfV v x
+  top-of-V s =
+      let u = shifted v in
+      let f = fractionOf v in
+      let n = topRung v in
+      let facts = on-side false s in
+      record {
+        kept = one-or-more u f n (num v) facts;
+        slot = cut-above u f n (num v) facts;
+        rungs =
+            topRungs-is (sequence «V» (below v) x f) u n
+            ∙ ap (λ (o : Float × Float). (startSum «V» false x (o .0), startSum «V» false x (o .1))) (topOrders-V u f n)
+            ∙ rw (startSum-V-small x (u ⊖ f1), startSum-V-small x u);
+      }
+
+-- ---- scaled
+
+own-size : (x : Float) → T (lt f7·5 x) → absolute x ≡ x
+unfolding lt absolute ofBits
+own-size nan t = absurd t
+own-size (inf true) t = absurd t
+own-size (inf false) t = refl
+own-size (fin true m e) t = absurd t
+own-size (fin false m e) t = refl
+
+beyond : (x : Float) → T (lt f7·5 x) → le (absolute x) f7·5 ≡ false
+beyond x t =
+    let p = lt-no-nan f7·5 x t in
+    ap (λ (y : Float). le y f7·5) (own-size x t) ∙ is-false (le x f7·5) (subst T (float-lt-total f7·5 x (p .0) (p .1)) t)
+
+scaled-start : (s : Bool) (x f va : Float) → ScaledStart s x f va
+scaled-start s x f va = record {
+  d = rw (startValue-is (sequence D s x f) va, smallLimit-D, startSum-D-small x va, startSum-D-large x va, f5·8-is);
+  v = λ u e. rw (startValue-is (sequence «V» s x f) va, smallLimit-V, beyond x (subst T (sym (V-scaled s x u e)) tt), startSum-V-large x va);
+}
+
+module _ (r : Sequence) (n : ℕ) where
+  low : rawRung r n (n + 101) ≡ seed (r .function)
+  low = raw-rung r n (n + 101) ∙ descent-top r (n + 101) (seed (r .function)) f0
+
+  high : rawRung r n (n + 102) ≡ f0
+  high =
+      let e : n + 102 ≡ n + 101 + 1 = omega arith in
+      raw-rung r n (n + 102) ∙ ap (descent r (n + 101) (seed (r .function)) f0) e ∙ descent-above r (n + 101) (seed (r .function)) f0
+
+  each : (k : ℕ) → k ≤ n + 100 → rawRung r n k ≡ stepDown (r .function) (r .x) (r .f) k (rawRung r n (k + 1)) (rawRung r n (k + 2))
+  each k h =
+      rw (raw-rung r n k, raw-rung r n (k + 1), raw-rung r n (k + 2))
+      (sym (descent-step r (n + 101) (seed (r .function)) f0 k (omega arith)))
+
+  first : rawRung r n (n + 100) ≡ stepDown (r .function) (r .x) (r .f) (n + 100) (seed (r .function)) f0
+  first =
+      let a : n + 100 + 1 ≡ n + 101 = omega arith in
+      let b : n + 100 + 2 ≡ n + 102 = omega arith in
+      each (n + 100) (omega arith)
+      ∙ ap (λ (w : Float). stepDown (r .function) (r .x) (r .f) (n + 100) w (rawRung r n (n + 100 + 2))) (ap (rawRung r n) a ∙ low)
+      ∙ ap (λ (w : Float). stepDown (r .function) (r .x) (r .f) (n + 100) (seed (r .function)) w) (ap (rawRung r n) b ∙ high)
+
+  scaled-column : ScaledColumn r n
+  scaled-column = record { low = low; high = high; first = first; each = each }
+
+pub as-source : AsSource
+as-source = record {
+  side = side-of-shifted;
+  start-loops = start-loops;
+  top-of-d = top-of-D;
+  top-of-v = top-of-V;
+  scaled-start = scaled-start;
+  scaled-column = scaled-column;
+}

@@ -5,7 +5,7 @@ use lib.Dec.{T}
 use lib.Ieee.{Float, nan, lt, le, eq, isNan, ofBits}
 use lib.Ieee.Bits.{is-true}
 use Rattle.floats.specs.Operations.{_⊗_, f0, f0-is, f½, f½-is, f2}
-use Rattle.floats.proofs.Tests.{or-l}
+use Rattle.floats.proofs.Booleans.{or-l}
 use Rattle.floats.proofs.Comparison.{float-lt-total, float-le-trans}
 use Rattle.signs.specs.Signs.{absolute}
 use Rattle.floats.specs.declared.Function.{Function}

@@ -65,9 +65,9 @@ below-same D x u u' = branchOf-D-below x u ∙ sym (branchOf-D-below x u')
 below-same «V» x u u' = branchOf-V-below x u ∙ sym (branchOf-V-below x u')
 
 -- a held order's u is n + f: the test on it is the one on u
-pub forward-held : (fn : Function) (s : Bool) (x u f : Float) (n m : ℕ) → Split s u f n m → runsForward fn s x (whole n ⊕ f) ≡ runsForward fn s x u
-forward-held fn false x u f n m facts = ap (runsForward fn false x) (joined-above u f n m facts)
-forward-held fn true x u f n m facts =
+pub forward-held : {s : Bool} {u f : Float} {n m : ℕ} (fn : Function) (x : Float) → Split s u f n m → runsForward fn s x (whole n ⊕ f) ≡ runsForward fn s x u
+forward-held {s = false} fn x facts = ap (runsForward fn false x) (joined-above facts)
+forward-held {s = true} {u = u} {f = f} {n = n} fn x facts =
     runsForward-is fn true x (whole n ⊕ f) ∙ ap isForward (below-same fn x (whole n ⊕ f) u) ∙ sym (runsForward-is fn true x u)
 
 -- V from order 0 on: what runs forward at u does so at a higher u'
@@ -87,8 +87,8 @@ higher-v x u u' up e = rw (branchOf-V-above x u', runsDown-is x u', orderIsLow-i
     go false true false d' t h e = rw (h refl) e
     go false true true d' t h e = absurd (true≢false (sym isForward-Forward ∙ ap isForward (sym e) ∙ isForward-Downward))
 
-pub forward-higher : (fn : Function) (s : Bool) (x u u' f : Float) (n n' m m' : ℕ) → Split s u f n m → Split s u' f n' m' → n ≤ n'
+pub forward-higher : {s : Bool} {u u' f : Float} {n n' m m' : ℕ} (fn : Function) (x : Float) → Split s u f n m → Split s u' f n' m' → n ≤ n'
     → branchOf fn s x u ≡ Forward → branchOf fn s x u' ≡ Forward
-forward-higher D false x u u' f n n' m m' a b h e = branchOf-D-above x u'
-forward-higher «V» false x u u' f n n' m m' a b h e = higher-v x u u' (stays-above u u' f (f½ ⊗ x ⊗ x) n n' m m' a b h) e
-forward-higher fn true x u u' f n n' m m' a b h e = below-same fn x u' u ∙ e
+forward-higher {s = false} {u' = u'} D x a b h e = branchOf-D-above x u'
+forward-higher {s = false} {u = u} {u' = u'} «V» x a b h e = higher-v x u u' (stays-above (f½ ⊗ x ⊗ x) a b h) e
+forward-higher {s = true} {u = u} {u' = u'} fn x a b h e = below-same fn x u' u ∙ e

@@ -35,7 +35,7 @@ cast x n rest l p h most v =
     ∙ capped false ((n * l + rest) / l) (subst (λ (z : ℕ). z ≤ 1000) (sym (cut-units n rest l p h)) most)
     ∙ ap pos (cut-units n rest l p h)
 
-module _ (u f : Float) (n m : ℕ) where
+module _ {u f : Float} {n m : ℕ} where
   pub cut-above : Split false u f n m → toSigned 31 u ≡ pos n
   cut-above facts = cast u n (facts .rest) (2 ^ low binary64) (pow-pos (low binary64)) (facts .rest-small) (facts .most) (facts .u-value)
 
@@ -71,7 +71,7 @@ number-of nan s a c v = absurd v
 number-of (inf t) s a c v = absurd v
 number-of (fin t m e) s a c v = tt
 
-module _ (s : Bool) (u f : Float) (n m : ℕ) (facts : Split s u f n m) where
+module _ {s : Bool} {u f : Float} {n m : ℕ} (facts : Split s u f n m) where
   abbrev l : ℕ
   l = 2 ^ low binary64
 
@@ -121,7 +121,7 @@ less-zero x s a c C p v =
     go true = sum-plus binary64 true a 0 c ∙ ap (λ (z : ℕ). round binary64 true z c) (add-zero a)
     go false = sum-minus binary64 false a 0 c zero-le ∙ ap (λ (z : ℕ). round binary64 false z c) (sub-zero a)
 
-module _ (s : Bool) (u f : Float) (n m : ℕ) (facts : Split s u f n m) where
+module _ {s : Bool} {u f : Float} {n m : ℕ} (facts : Split s u f n m) where
   pub fraction-plus-zero : f ⊕ whole 0 ≡ f
   unfolding ofInt round
   fraction-plus-zero =

@@ -40,8 +40,8 @@ module _ (v : Float) (r : InRange v) where
 
   side-of-shifted : SideOfShifted v
   side-of-shifted = record {
-    up = zero-up (below v) (shifted v) (fractionOf v) (topRung v) (num v) facts;
-    down = zero-down (below v) (shifted v) (fractionOf v) (topRung v) (num v) facts;
+    up = zero-up facts;
+    down = zero-down facts;
   }
 
   start-loops : StartLoops v
@@ -49,8 +49,8 @@ module _ (v : Float) (r : InRange v) where
       let f = fractionOf v in
       record {
         turns = facts .least;
-        up = (fraction-plus-zero (below v) (shifted v) f (topRung v) (num v) facts, ap (λ (w : Float). f ⊕ w) one-is ∙ sym (nextOrder-above f));
-        down = (fraction-less-zero (below v) (shifted v) f (topRung v) (num v) facts, ap (λ (w : Float). f ⊖ w) one-is ∙ sym (nextOrder-below f));
+        up = (fraction-plus-zero facts, ap (λ (w : Float). f ⊕ w) one-is ∙ sym (nextOrder-above f));
+        down = (fraction-less-zero facts, ap (λ (w : Float). f ⊖ w) one-is ∙ sym (nextOrder-below f));
       }
 
 -- ---- the top rungs
@@ -76,10 +76,10 @@ module _ (v x : Float) (r : InRange v) where
       let f = fractionOf v in
       let n = topRung v in
       let facts = on-side true s in
-      let same : neg (whole n) ⊕ f ≡ topOfD v = joined-below u f n (num v) facts ∙ sym top-is in
+      let same : neg (whole n) ⊕ f ≡ topOfD v = joined-below facts ∙ sym top-is in
       record {
         kept = λ e. not-zero n (facts .least) (sym (wholePart-signed v r ∙ ap (λ (b : Bool). signedInt b n) s) ∙ e);
-        slot = ap (λ (w : Float). toSigned 31 (neg w)) top-is ∙ cut-below u f n (num v) facts;
+        slot = ap (λ (w : Float). toSigned 31 (neg w)) top-is ∙ cut-below facts;
         rungs =
             topRungs-is (sequence D (below v) x f) u n
             ∙ ap (λ (o : Float × Float). (startSum D false x (o .0), startSum D false x (o .1))) (topOrders-D u f n)
@@ -94,8 +94,8 @@ module _ (v x : Float) (r : InRange v) where
       let n = topRung v in
       let facts = on-side false s in
       record {
-        kept = one-or-more u f n (num v) facts;
-        slot = cut-above u f n (num v) facts;
+        kept = one-or-more facts;
+        slot = cut-above facts;
         rungs =
             topRungs-is (sequence «V» (below v) x f) u n
             ∙ ap (λ (o : Float × Float). (startSum «V» false x (o .0), startSum «V» false x (o .1))) (topOrders-V u f n)

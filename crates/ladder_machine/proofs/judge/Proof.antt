@@ -44,7 +44,7 @@ case-of-requires c κs =
     let q = asks (g .function) (g .v) (g .x) in
     let a = accepted q (g .values) (g .derivatives) (ok c) in
     let facts = split-facts (g .v) (record { number = a .0; small = a .2; fit = order-fits c }) in
-    (a .1, rw (c .before .before .before .split .ensures .1 .1 .0) (fraction-number (below (g .v)) (shifted (g .v)) (fractionOf (g .v)) (topRung (g .v)) (num (g .v)) facts))
+    (a .1, rw (c .before .before .before .split .ensures .1 .1 .0) (fraction-number facts))
 
 pub judge-spec : {M : Type 1} → statement M
 unfolding verdictOf

@@ -1,4 +1,5 @@
--- The branches of a table (01, "Upward, downward, scaled"; the tests of the source's pbdv_impl and pbvv_impl). u is the request's own shifted order.
+-- The branches of a table (01, "Upward, downward, scaled"; the tests of the source's pbdv_impl and pbvv_impl). u is the
+-- request's own shifted order.
 use mathlib.Core.Bool.{Bool, true, false, _&&_, _||_, cond}
 use lib.Ieee.{Float, lt, le}
 use Rattle.floats.specs.Operations.{_⊗_, f0, f½, f2}

@@ -6,7 +6,8 @@ ghost use Rattle.branches.specs.Branches.{orderIsLow, runsDown, branchOf
 use floats::Function;
 use signs::abs;
 
-// How the rungs are worked out: upward from rungs 0 and 1, downward from rungs n and n - 1, or downward from far above n and then scaled.
+// How the rungs are worked out: upward from rungs 0 and 1, downward from rungs n and n - 1, or downward from far above
+// n and then scaled.
 pub enum Branch {
     Forward,
     Downward,

@@ -15,7 +15,7 @@ use Rattle.ladder_machine.specs.Machine.{Request, asked, refusal, Verdict, refu
 use Rattle.ladder_machine.specs.Held.{machineOf}
 use Rattle.ladder_machine.proofs.Laws.{not-empty, Means, verdict-means, climb-parts, repeats-count, climbs-count, starts-count}
 use Rattle.ladder.specs.declared.Ladder.{Ladder}
-use Rattle.ladder.specs.Ladder.{stateOf, heldIn, stateFor, carriedValue, carriedDerivative, climbedTo, Given, pairThen, givenOn, answered, outcome, valuesThen, derivativesThen, outcomeBy, requested}
+use Rattle.ladder.specs.Ladder.{stateOf, heldIn, stateFor, valueFrom, derivativeFrom, climbedTo, Given, pairThen, givenOn, answered, outcome, valuesThen, derivativesThen, outcomeBy, requested}
 use Rattle.ladder.specs.Ladder.Open.{stateFor-is, climbedTo-is, state-stays, state-goes-on, state-starts, values-stay, values-go-on, values-start, derivatives-stay, derivatives-go-on, derivatives-start, outcome-by, requested-is}
 use Rattle.ladder.proofs.Climbs.{climbed-here}
 use Rattle.ladder.proofs.Starts.{order-room}
@@ -70,7 +70,7 @@ module _ (s : Ladder) (q : Request) (l d : List Float) (w : Verdict) where
       )
 
   pub climbed-outcome : (m n : ℕ) (s1 : Ladder) (g : Given) (l1 d1 : List Float) → w ≡ climbs m n → s .n ≡ m → s1 ≡ climbedTo s n
-      → l1 ≡ filled (carriedValue s) (s .n + 1) (s .n + 1) (n - s .n) l → d1 ≡ filled (carriedDerivative s) (s .n) (s .n) (n - s .n) d
+      → l1 ≡ filled (valueFrom s) (s .n + 1) (s .n + 1) (n - s .n) l → d1 ≡ filled (derivativeFrom s) (s .n) (s .n) (n - s .n) d
       → g ≡ answered (n - m) s1 → outcome g l1 d1 ≡ outcomeBy w s q l d
   unfolding effect givenOn answered refusedBy pairThen
   climbed-outcome m n s1 g l1 d1 e em es el ed eg =
@@ -110,7 +110,7 @@ module _ (s : Ladder) (q : Request) (l d : List Float) where
   kept stays = rw (values-stay s q l, derivatives-stay s q d) (refl, refl)
   kept (goesOn m n) =
       rw (values-go-on s q l m n, derivatives-go-on s q d m n)
-      (length-filled (carriedValue s) (m + 1) (m + 1) (n - m) l, length-filled (carriedDerivative s) m m (n - m) d)
+      (length-filled (valueFrom s) (m + 1) (m + 1) (n - m) l, length-filled (derivativeFrom s) m m (n - m) d)
   kept (startsAt n) =
       rw (values-start s q l n, derivatives-start s q d n)
       (length-filled (valueOf (q .function) (q .v) (q .x)) 0 0 (n + 1) l, length-filled (derivativeOf (q .function) (q .v) (q .x)) 0 0 n d)

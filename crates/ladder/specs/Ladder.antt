@@ -1,4 +1,5 @@
--- The ladder (01, "The ladder"): its state, and what a request answers, hands back and leaves of both tables, for every state, request and table content.
+-- The ladder (01, "The ladder"): its state, and what a request answers, hands back and leaves of both tables, for every
+-- state, request and table content.
 use mathlib.Core.List.{List}
 use mathlib.Core.Option.{Option, some, none}
 use Prim.Native.Nat.{ℕ, _+_, _-_}
@@ -7,16 +8,16 @@ use lib.ListN.{length}
 use lib.Ieee.{Float}
 use Rattle.floats.specs.Operations.{f0}
 use Rattle.floats.specs.declared.Function.the-variants.{D}
-use Rattle.recurrence.specs.Recurrence.{step}
-use Rattle.recurrence.specs.ThreeTerm.{continued}
 use Rattle.derivatives.specs.Derivatives.{derivative}
 use Rattle.rungs.specs.declared.Sequence.{Sequence}
 use Rattle.slots.specs.Slots.{filled}
 use Rattle.answer.specs.Answer.{refusalOf, pairOf}
 use Rattle.tables.specs.Tables.{sequenceOf, valueOf, derivativeOf}
 use Rattle.ladder_machine.specs.declared.Held.{Held}
-use Rattle.ladder_machine.specs.Machine.{Request, asked, Verdict, refusedBy, written, Effect, stays, goesOn, startsAt, effect, verdict}
+use Rattle.ladder_machine.specs.Machine.{Request, asked, Verdict, refusedBy, written, Effect, stays, goesOn, startsAt}
+use Rattle.ladder_machine.specs.Machine.{effect, verdict}
 use Rattle.ladder_machine.specs.Held.{machineOf}
+use Rattle.ladder_climb.specs.Climb.{carriedValue, carriedDerivative}
 use Rattle.ladder.specs.declared.Ladder.{Ladder}
 use Rattle.ladder.specs.declared.Written.{Written}
 use Rattle.ladder.specs.declared.Written.the-variants.{Count, Nothing}
@@ -27,7 +28,8 @@ pub mod Open
 
 -- a state by its rungs: which they are, n, and the values of rungs n − 1 and n. Every state is made here.
 unfoldable pub stateOf : Sequence → ℕ → Float → Float → Ladder
-stateOf r n low high = record { function = r .function; below = r .below; x = r .x; f = r .f; n = n; low = low; high = high }
+stateOf r n low high =
+    record { function = r .function; below = r .below; x = r .x; f = r .f; n = n; low = low; high = high }
 
 -- which rungs a state holds
 unfoldable pub sequenceIn : Ladder → Sequence
@@ -45,19 +47,18 @@ heldIn s = record { function = s .function; below = s .below; x = s .x; f = s .f
 pub stateFor : Request → ℕ → Ladder
 stateFor q n = stateOf (sequenceOf (q .function) (q .v) (q .x)) n (valueOf (q .function) (q .v) (q .x) (n - 1)) (valueOf (q .function) (q .v) (q .x) n)
 
--- ---- a climb: the recurrence and the derivative formula carried on from the state's two values
+-- ---- a climb
 
--- value k, from the held n − 1 on
-pub carriedValue : Ladder → ℕ → Float
-carriedValue s k = continued (λ i. step (s .function) (s .below) (s .x) (s .f) (s .n + 1 + i)) (s .low) (s .high) (k + 1 - s .n)
+-- value k and derivative k, carried on from the state's two values
+abbrev pub valueFrom : Ladder → ℕ → Float
+valueFrom s = carriedValue (sequenceIn s) (s .n) (s .low) (s .high)
 
--- derivative k
-pub carriedDerivative : Ladder → ℕ → Float
-carriedDerivative s k = derivative (s .function) (s .below) (s .x) (s .f) k (carriedValue s k) (carriedValue s (k + 1))
+abbrev pub derivativeFrom : Ladder → ℕ → Float
+derivativeFrom s = carriedDerivative (sequenceIn s) (s .n) (s .low) (s .high)
 
 -- the state at a higher n
 pub climbedTo : Ladder → ℕ → Ladder
-climbedTo s n = stateOf (sequenceIn s) n (carriedValue s (n - 1)) (carriedValue s n)
+climbedTo s n = stateOf (sequenceIn s) n (valueFrom s (n - 1)) (valueFrom s n)
 
 -- ---- what a request answers, hands back and leaves
 
@@ -103,8 +104,8 @@ pub record Outcome : Type 0 where
 abbrev pub outcome : Given → List Float → List Float → Outcome
 outcome given values derivatives = record { given = given; values = values; derivatives = derivatives }
 
--- the state handed back, and the two tables: what goes on from m to n writes values m + 1 to n and derivatives m to n − 1, and reads no table; what starts
--- over at n writes values 0 to n and derivatives 0 to n − 1
+-- the state handed back, and the two tables: what goes on from m to n writes values m + 1 to n and derivatives m to n −
+-- 1, and reads no table; what starts over at n writes values 0 to n and derivatives 0 to n − 1
 pub stateThen : Effect → Ladder → Request → Ladder
 stateThen stays s q = s
 stateThen (goesOn m n) s q = climbedTo s n
@@ -112,12 +113,12 @@ stateThen (startsAt n) s q = stateFor q n
 
 pub valuesThen : Effect → Ladder → Request → List Float → List Float
 valuesThen stays s q l = l
-valuesThen (goesOn m n) s q l = filled (carriedValue s) (m + 1) (m + 1) (n - m) l
+valuesThen (goesOn m n) s q l = filled (valueFrom s) (m + 1) (m + 1) (n - m) l
 valuesThen (startsAt n) s q l = filled (valueOf (q .function) (q .v) (q .x)) 0 0 (n + 1) l
 
 pub derivativesThen : Effect → Ladder → Request → List Float → List Float
 derivativesThen stays s q l = l
-derivativesThen (goesOn m n) s q l = filled (carriedDerivative s) m m (n - m) l
+derivativesThen (goesOn m n) s q l = filled (derivativeFrom s) m m (n - m) l
 derivativesThen (startsAt n) s q l = filled (derivativeOf (q .function) (q .v) (q .x)) 0 0 n l
 
 -- by what the machine says
@@ -127,4 +128,5 @@ outcomeBy w s q values derivatives =
 
 -- the machine begun with the state's fields says which it is
 pub requested : Ladder → Request → List Float → List Float → Outcome
-requested s q values derivatives = outcomeBy (verdict (machineOf (heldIn s)) (asked q (length values) (length derivatives))) s q values derivatives
+requested s q values derivatives =
+    outcomeBy (verdict (machineOf (heldIn s)) (asked q (length values) (length derivatives))) s q values derivatives

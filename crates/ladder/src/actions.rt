@@ -1,18 +1,21 @@
 // What is done on a judgement.
 
 ghost use mathlib.Core.Path.{_≡_};
-ghost use Prim.Native.Nat.{_+_, _≤_};
+ghost use mathlib.Core.Bool.{true};
+ghost use Prim.Native.Nat.{_+_, _-_, _≤_};
 ghost use lib.ListN.{length};
 ghost use Rattle.order.specs.Order.{topRung};
 ghost use Rattle.slots.specs.Slots.{filled};
 ghost use Rattle.tables.specs.Tables.{valueOf, derivativeOf};
 ghost use Rattle.ladder_machine.specs.Machine.{asks, asked, refusal, refuses, verdict};
 ghost use Rattle.ladder_machine.specs.Held.{machineOf, verdictOf};
-ghost use Rattle.ladder.specs.Ladder.{heldIn, stateFor, givenBy, givenOn, answered, outcome, outcomeBy};
+ghost use Rattle.ladder_climb.specs.Climb.{roomAbove};
+ghost use Rattle.ladder.specs.Ladder.{heldIn, stateFor, valueFrom, derivativeFrom, climbedTo, givenBy, givenOn};
+ghost use Rattle.ladder.specs.Ladder.{answered, outcome, outcomeBy};
 use crate::Ladder;
 use crate::Reply;
 use crate::Written;
-use crate::climbing::climb;
+use crate::states::sequence_in;
 use crate::states::state_of;
 use floats::Function;
 use ladder_machine::Judgement;
@@ -46,6 +49,22 @@ fn answer(s: Ladder, count: Rung) -> Reply
     }
 }
 
+// Stores the rungs above a state's up to `top`, and gives the state there. No slot is read.
+fn climb(values: &mut [f64], derivatives: &mut [f64], s: Ladder, top: Rung) -> Ladder
+    requires { ⌜ roomAbove (s .n) top (length (now values)) (length (now derivatives)) ≡ true ⌝ }
+    ensures state { λ r. ⌜ r ≡ climbedTo s top ⌝ }
+    ensures values { λ _. ⌜
+        now (values .exit) ≡ filled (valueFrom s) (s .n + 1) (s .n + 1) (top - s .n) (now (values .entry))
+        ⌝ }
+    ensures derivatives { λ _. ⌜
+        now (derivatives .exit) ≡ filled (derivativeFrom s) (s .n) (s .n) (top - s .n) (now (derivatives .entry))
+        ⌝ }
+{
+    let sequence = sequence_in(s);
+    let held = ladder_climb::climb(values, derivatives, sequence, s.n, s.low, s.high, top);
+    state_of(sequence, top, held.low, held.high)
+}
+
 // Stores all rungs of a request, and gives the state that holds it.
 fn start_over(
     values: &mut [f64],
@@ -56,8 +75,12 @@ fn start_over(
 ) -> Ladder
     requires { ⌜ refusal (asks function v x) (length (now values)) (length (now derivatives)) ≡ 0 ⌝ }
     ensures state { λ r. ⌜ r ≡ stateFor (asks function v x) (topRung v) ⌝ }
-    ensures values { λ _. ⌜ now (values .exit) ≡ filled (valueOf function v x) 0 0 (topRung v + 1) (now (values .entry)) ⌝ }
-    ensures derivatives { λ _. ⌜ now (derivatives .exit) ≡ filled (derivativeOf function v x) 0 0 (topRung v) (now (derivatives .entry)) ⌝ }
+    ensures values { λ _. ⌜
+        now (values .exit) ≡ filled (valueOf function v x) 0 0 (topRung v + 1) (now (values .entry))
+        ⌝ }
+    ensures derivatives { λ _. ⌜
+        now (derivatives .exit) ≡ filled (derivativeOf function v x) 0 0 (topRung v) (now (derivatives .entry))
+        ⌝ }
 {
     let o = order::split(v);
     let n = o.n;
@@ -83,8 +106,14 @@ pub(crate) fn act(
     v: f64,
     x: f64,
 ) -> Reply
-    requires { ⌜ verdictOf judgement ≡ verdict (machineOf (heldIn s)) (asked (asks function v x) (length (now values)) (length (now derivatives))) ⌝ }
-    ensures { λ r. ⌜ outcome (givenBy r) (now (values .exit)) (now (derivatives .exit)) ≡ outcomeBy (verdictOf judgement) s (asks function v x) (now (values .entry)) (now (derivatives .entry)) ⌝ }
+    requires { ⌜
+        verdictOf judgement
+        ≡ verdict (machineOf (heldIn s)) (asked (asks function v x) (length (now values)) (length (now derivatives)))
+        ⌝ }
+    ensures { λ r. ⌜
+        outcome (givenBy r) (now (values .exit)) (now (derivatives .exit))
+        ≡ outcomeBy (verdictOf judgement) s (asks function v x) (now (values .entry)) (now (derivatives .entry))
+        ⌝ }
 {
     match judgement {
         Judgement::Refused(number) => refuse(s, number),

@@ -1,8 +1,7 @@
-// The ladder: a state that is held between requests and climbs when a higher order comes. Its tables are lent by the caller, of any length and content. No
-// public function has a condition: each answers every input.
+// The ladder: a state that is held between requests and climbs when a higher order comes. Its tables are lent by the
+// caller, of any length and content. No public function has a condition: each answers every input.
 
 mod actions;
-mod climbing;
 mod states;
 
 ghost use mathlib.Core.Path.{_≡_};
@@ -18,8 +17,8 @@ use states::held_in;
 pub use states::state_of;
 use tables::Answer;
 
-// The state: function, side (v < 0 or not), argument, fraction of the order, n, and the values of rungs n - 1 and n. It counts as empty where n is 0 or above
-// 1000, x or f is NaN, or the size of f is 1 or more.
+// The state: function, side (v < 0 or not), argument, fraction of the order, n, and the values of rungs n - 1 and n. It
+// counts as empty where n is 0 or above 1000, x or f is NaN, or the size of f is 1 or more.
 pub struct Ladder {
     pub function: Function,
     pub below: bool,
@@ -67,7 +66,10 @@ impl Ladder {
         values: &mut [f64],
         derivatives: &mut [f64],
     ) -> Reply
-        ensures { λ r. ⌜ outcome (givenBy r) (now (values .exit)) (now (derivatives .exit)) ≡ requested self (asks function v x) (now (values .entry)) (now (derivatives .entry)) ⌝ }
+        ensures { λ r. ⌜
+            outcome (givenBy r) (now (values .exit)) (now (derivatives .exit))
+            ≡ requested self (asks function v x) (now (values .entry)) (now (derivatives .entry))
+            ⌝ }
     {
         let held = held_in(self);
         let judgement = ladder_machine::judge(

@@ -7,7 +7,8 @@ use ladder_machine::Held;
 use order::Rung;
 use rungs::Sequence;
 
-// The state that holds rungs 0 to n of a sequence; low and high are the values of rungs n - 1 and n. Every state is made here.
+// The state that holds rungs 0 to n of a sequence; low and high are the values of rungs n - 1 and n. Every state is
+// made here.
 pub fn state_of(sequence: Sequence, n: Rung, low: f64, high: f64) -> Ladder
     ensures { λ r. ⌜ r ≡ stateOf sequence n low high ⌝ }
 {

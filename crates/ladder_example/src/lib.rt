@@ -12,7 +12,8 @@ use ladder::Ladder;
 use ladder::Written;
 use tables::Answer;
 
-// What comes of P11: the four written counts, the answer at order 4, and value 4 and derivative 4 as the tables hold them at the end.
+// What comes of P11: the four written counts, the answer at order 4, and value 4 and derivative 4 as the tables hold
+// them at the end.
 pub struct FourRequests {
     pub first: Written,
     pub second: Written,
@@ -25,7 +26,10 @@ pub struct FourRequests {
 
 // D at x = 0 and v = 2, 4, 4, 2 on one ladder, with a value table of 6 slots and a derivative table of 5.
 pub fn p11() -> FourRequests
-    ensures written { λ r. ⌜ writtenOf (r .first) ∷ writtenOf (r .second) ∷ writtenOf (r .third) ∷ writtenOf (r .fourth) ∷ [] ≡ some 4 ∷ some 2 ∷ some 0 ∷ some 4 ∷ [] ⌝ }
+    ensures written { λ r. ⌜
+        writtenOf (r .first) ∷ writtenOf (r .second) ∷ writtenOf (r .third) ∷ writtenOf (r .fourth) ∷ []
+        ≡ some 4 ∷ some 2 ∷ some 0 ∷ some 4 ∷ []
+        ⌝ }
     ensures answered { λ r. ⌜ pairOf (r .answer) ≡ some (decimal 3 0, f0) ⌝ }
     ensures stored { λ r. ⌜ _≡_ {A = Float × Float} (r .value, r .derivative) (decimal 3 0, f0) ⌝ }
 {

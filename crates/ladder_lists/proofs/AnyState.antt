@@ -16,10 +16,12 @@ use Rattle.tables.specs.Tables.{answer}
 use Rattle.ladder_machine.specs.Machine.{Request, request, refusal, Verdict, refuses, repeats, climbs, startsOver, refusedBy, written, Effect, stays, goesOn, startsAt, effect, heldThen}
 use Rattle.ladder_machine.specs.Held.{countsEmpty, machineOf}
 use Rattle.ladder_machine.proofs.Laws.{accepted, not-empty, not-counted-empty, Means, verdict-means, climb-parts, Does, effect-means, refuses-count, repeats-count, climbs-count, starts-count, next-by, held-stays, held-goes-on, held-starts, next-state}
+use Rattle.ladder_climb.specs.Climb.Open.{carriedDerivative-is}
+use Rattle.ladder_climb.proofs.Climbs.{carried-low, carried-high, carried-step}
 use Rattle.ladder.specs.declared.Ladder.{Ladder}
-use Rattle.ladder.specs.Ladder.{stateOf, sequenceIn, heldIn, carriedValue, carriedDerivative, climbedTo, pairThen, givenOn, Outcome, outcome, stateThen, outcomeBy, requested}
-use Rattle.ladder.specs.Ladder.Open.{carriedDerivative-is, climbedTo-is, pairFrom-is, state-stays, state-goes-on, state-starts, values-stay, values-go-on, derivatives-stay, derivatives-go-on, outcome-by, requested-is}
-use Rattle.ladder.proofs.Climbs.{carried-low, carried-high, carried-step, climbed-here}
+use Rattle.ladder.specs.Ladder.{stateOf, sequenceIn, heldIn, valueFrom, derivativeFrom, climbedTo, pairThen, givenOn, Outcome, outcome, stateThen, outcomeBy, requested}
+use Rattle.ladder.specs.Ladder.Open.{climbedTo-is, pairFrom-is, state-stays, state-goes-on, state-starts, values-stay, values-go-on, derivatives-stay, derivatives-go-on, outcome-by, requested-is}
+use Rattle.ladder.proofs.Climbs.{climbed-here}
 use Rattle.ladder_lists.specs.Demand3.{ask, Number, Long, tabledValue, tabledDerivative, heldAfter, stateDue, pairDue, valuesDue, derivativesDue, says, JustWritten, Climbed, StateRight}
 use Rattle.ladder_lists.proofs.Held.{Known, facts, state-held, state-machine}
 use Rattle.ladder_lists.proofs.Turns.{known-request, starts}
@@ -75,7 +77,7 @@ module _ (table : Request → List Float) (long : Long table) (s : Ladder) (q : 
       )
 
   climb-is : (m n : ℕ) → said ≡ climbs m n → requested s q l d
-      ≡ outcome (givenOn (climbs m n) (climbedTo s n)) (filled (carriedValue s) (m + 1) (m + 1) (n - m) l) (filled (carriedDerivative s) m m (n - m) d)
+      ≡ outcome (givenOn (climbs m n) (climbedTo s n)) (filled (valueFrom s) (m + 1) (m + 1) (n - m) l) (filled (derivativeFrom s) m m (n - m) d)
   unfolding effect
   climb-is m n e = by (climbs m n) e ∙ outcome-by s q l d (climbs m n) ∙ rw (state-goes-on s q m n, values-go-on s q l m n, derivatives-go-on s q d m n)
 
@@ -88,21 +90,21 @@ module _ (table : Request → List Float) (long : Long table) (s : Ladder) (q : 
       let a = accepted q (length l) (length d) (p .0) in
       let up : m < n = omega (arith, c .0, p .4, p .1) in
       let two : 2 ≤ m = omega (arith, c .1, p .4) in
-      let w = carriedValue s in
+      let w = valueFrom s in
       let is = climb-is m n e in
       let state : climbedTo s n ≡ stateOf (sequenceIn s) n (w (n - 1)) (w n) = climbedTo-is s n in
-      let formula : (k : ℕ) → carriedDerivative s k ≡ derivative (s .function) (s .below) (s .x) (s .f) k (w k) (w (k + 1)) = carriedDerivative-is s in
-      let over : filled (carriedDerivative s) m m (n - m) d ≡ filled (λ (k : ℕ). derivative (s .function) (s .below) (s .x) (s .f) k (w k) (w (k + 1))) m m (n - m) d =
-      filled-same (carriedDerivative s) (λ (k : ℕ). derivative (s .function) (s .below) (s .x) (s .f) k (w k) (w (k + 1))) m m m (n - m) d (λ k b. formula (m + k)) in (
+      let formula : (k : ℕ) → derivativeFrom s k ≡ derivative (s .function) (s .below) (s .x) (s .f) k (w k) (w (k + 1)) = carriedDerivative-is (sequenceIn s) (s .n) (s .low) (s .high) in
+      let over : filled (derivativeFrom s) m m (n - m) d ≡ filled (λ (k : ℕ). derivative (s .function) (s .below) (s .x) (s .f) k (w k) (w (k + 1))) m m (n - m) d =
+      filled-same (derivativeFrom s) (λ (k : ℕ). derivative (s .function) (s .below) (s .x) (s .f) k (w k) (w (k + 1))) m m m (n - m) d (λ k b. formula (m + k)) in (
         p .4,
         p .1,
         two,
         up,
         record {
           w = w;
-          low = ap (λ (k : ℕ). w (k - 1)) (sym (p .4)) ∙ carried-low s (omega (arith, c .1));
-          high = ap w (sym (p .4)) ∙ carried-high s;
-          carried = λ k h b. carried-step s k (omega (arith, c .1)) (omega (arith, p .4));
+          low = ap (λ (k : ℕ). w (k - 1)) (sym (p .4)) ∙ carried-low (sequenceIn s) (s .n) (s .low) (s .high) (omega (arith, c .1));
+          high = ap w (sym (p .4)) ∙ carried-high (sequenceIn s) (s .n) (s .low) (s .high);
+          carried = λ k h b. carried-step (sequenceIn s) (s .n) (s .low) (s .high) k (omega (arith, c .1)) (omega (arith, p .4));
           values = rw is (just-written w (m + 1) (n - m) l (omega (arith, a .3, p .1)));
           derivatives = rw (is, over) (just-written (λ (k : ℕ). derivative (s .function) (s .below) (s .x) (s .f) k (w k) (w (k + 1))) m (n - m) d (omega (arith, a .4, p .1)));
           state = rw (is, state);

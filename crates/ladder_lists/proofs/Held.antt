@@ -47,11 +47,8 @@ module _ (q : Request) (known : Known q) where
     pub state-held : countsEmpty (heldIn (stateFor q n)) ≡ false
     unfolding heldIn stateOf
     state-held =
-        let s = below (q .v) in
-        let u = shifted (q .v) in
-        let f = fractionOf (q .v) in
         rw (stateFor-is q n)
-        (not-counted-empty _ least (omega (arith, facts .most)) (known .argument) (fraction-number s u f (topRung (q .v)) (num (q .v)) facts) (fraction-small s u f (topRung (q .v)) (num (q .v)) facts))
+        (not-counted-empty _ least (omega (arith, facts .most)) (known .argument) (fraction-number facts) (fraction-small facts))
 
     pub state-machine : machineOf (heldIn (stateFor q n)) ≡ holding q n
     unfolding heldIn stateOf

@@ -22,10 +22,11 @@ use Rattle.tables.specs.Tables.{sequenceOf, valueOf, derivativeOf}
 use Rattle.tables.proofs.Calls.{value-is}
 use Rattle.ladder_machine.specs.Machine.{Request, bitsOf, sameRungs, mayClimb}
 use Rattle.ladder_machine.proofs.Laws.{same-parts, climb-parts}
+use Rattle.ladder_climb.specs.Climb.Open.{carriedValue-is, carriedDerivative-is}
+use Rattle.ladder_climb.proofs.Climbs.{carried-low, carried-high}
 use Rattle.ladder.specs.declared.Ladder.{Ladder}
-use Rattle.ladder.specs.Ladder.{stateOf, sequenceIn, stateFor, carriedValue, carriedDerivative, climbedTo}
-use Rattle.ladder.specs.Ladder.Open.{stateFor-is, carriedValue-is, carriedDerivative-is, climbedTo-is}
-use Rattle.ladder.proofs.Climbs.{carried-low, carried-high}
+use Rattle.ladder.specs.Ladder.{stateOf, sequenceIn, stateFor, valueFrom, derivativeFrom, climbedTo}
+use Rattle.ladder.specs.Ladder.Open.{stateFor-is, climbedTo-is}
 use Rattle.ladder_lists.proofs.Held.{Known, derivative-by, facts}
 
 -- p is held, with its rungs up to n finished, and q is asked for
@@ -56,16 +57,16 @@ module _ (p q : Request) (known-p : Known p) (known-q : Known q)
   unfolding stateOf
   held-n = rw held-state
 
-  held-low : carriedValue held (m - 1) ≡ valueOf (p .function) (p .v) (p .x) (m - 1)
+  held-low : valueFrom held (m - 1) ≡ valueOf (p .function) (p .v) (p .x) (m - 1)
   unfolding stateOf
   held-low =
-      ap (λ (k : ℕ). carriedValue held (k - 1)) (sym held-n)
-      ∙ carried-low held (omega (arith, held-n, all, facts p known-p .least))
+      ap (λ (k : ℕ). valueFrom held (k - 1)) (sym held-n)
+      ∙ carried-low (sequenceIn held) (held .n) (held .low) (held .high) (omega (arith, held-n, all, facts p known-p .least))
       ∙ ap (λ (s : Ladder). s .low) held-state
 
-  held-high : carriedValue held m ≡ valueOf (p .function) (p .v) (p .x) m
+  held-high : valueFrom held m ≡ valueOf (p .function) (p .v) (p .x) m
   unfolding stateOf
-  held-high = ap (carriedValue held) (sym held-n) ∙ carried-high held ∙ ap (λ (s : Ladder). s .high) held-state
+  held-high = ap (valueFrom held) (sym held-n) ∙ carried-high (sequenceIn held) (held .n) (held .low) (held .high) ∙ ap (λ (s : Ladder). s .high) held-state
 
   -- ---- a climb: both requests have the rungs of the forward branch
 
@@ -81,7 +82,7 @@ module _ (p q : Request) (known-p : Known p) (known-q : Known q)
     forward =
         let forth = rw (parts .0, parts .1, parts .2, parts .3, all) at (rise .2 (known-p .fit) (facts p known-p .f-fits)) in
         forward-branch (q .function) (below (q .v)) (q .x) (shifted (p .v))
-        (sym (forward-held (q .function) (below (q .v)) (q .x) (shifted (p .v)) (fractionOf (q .v)) (topRung (p .v)) (num (p .v)) lower) ∙ forth)
+        (sym (forward-held (q .function) (q .x) lower) ∙ forth)
 
     held-rungs : valueOf (p .function) (p .v) (p .x) ≡ rung r
     held-rungs = held-values ∙ value-forward r (shifted (p .v)) (topRung (p .v)) forward
@@ -89,13 +90,13 @@ module _ (p q : Request) (known-p : Known p) (known-q : Known q)
     higher-rungs : valueOf (q .function) (q .v) (q .x) ≡ rung r
     higher-rungs =
         value-is (q .function) (q .v) (q .x)
-        ∙ value-forward r (shifted (q .v)) (topRung (q .v)) (forward-higher (q .function) (below (q .v)) (q .x) (shifted (p .v)) (shifted (q .v)) (fractionOf (q .v)) (topRung (p .v)) (topRung (q .v)) (num (p .v)) (num (q .v)) lower (facts q known-q) (omega (arith, rise .0, all)) forward)
+        ∙ value-forward r (shifted (q .v)) (topRung (q .v)) (forward-higher (q .function) (q .x) lower (facts q known-q) (omega (arith, rise .0, all)) forward)
 
-    climbed-rung : (k : ℕ) → m ≤ k + 1 → carriedValue held k ≡ rung r k
-    unfolding stateOf
+    climbed-rung : (k : ℕ) → m ≤ k + 1 → valueFrom held k ≡ rung r k
+    unfolding stateOf sequenceIn
     climbed-rung k h =
         let e : m - 1 + (k + 1 - m) ≡ k = omega (arith, rise .1) in
-        carriedValue-is held k ∙ rw (held-state, held-rungs) (rungs-on r m (rise .1) (k + 1 - m)) ∙ ap (rung r) e
+        carriedValue-is (sequenceIn held) (held .n) (held .low) (held .high) k ∙ rw (held-state, held-rungs) (rungs-on r m (rise .1) (k + 1 - m)) ∙ ap (rung r) e
 
   -- ---- at the same n u is the same too
 
@@ -125,23 +126,23 @@ module _ (p q : Request) (known-p : Known p) (known-q : Known q)
     same-derivative k = rw (derivative-by p k, derivative-by q k, same-value k, same-value (k + 1), parts .0, parts .1, parts .2, parts .3)
 
     -- WHAT IS CARRIED ON is the new request's
-    pub carried-value : (k : ℕ) → m ≤ k + 1 → k ≤ topRung (q .v) → carriedValue held k ≡ valueOf (q .function) (q .v) (q .x) k
+    pub carried-value : (k : ℕ) → m ≤ k + 1 → k ≤ topRung (q .v) → valueFrom held k ≡ valueOf (q .function) (q .v) (q .x) k
     carried-value k h b = go on
       where
         -- at the same n there are two values, those held
-        either : (m ≡ k + 1) ⊎ (m < k + 1) → m ≡ topRung (q .v) → carriedValue held k ≡ valueOf (p .function) (p .v) (p .x) k
+        either : (m ≡ k + 1) ⊎ (m < k + 1) → m ≡ topRung (q .v) → valueFrom held k ≡ valueOf (p .function) (p .v) (p .x) k
         either (inl a) e = let i : k ≡ m - 1 = omega arith in rw i held-low
         either (inr a) e = let i : k ≡ m = omega arith in rw i held-high
 
         go : (m ≡ topRung (q .v)) ⊎ (mayClimb (p .function) (below (p .v)) (bitsOf (p .x)) (bitsOf (fractionOf (p .v))) m (topRung (q .v)) ≡ true)
-            → carriedValue held k ≡ valueOf (q .function) (q .v) (q .x) k
+            → valueFrom held k ≡ valueOf (q .function) (q .v) (q .x) k
         go (inl e) = either (eq-or-lt-of-le h) e ∙ same-value k
         go (inr climb) = climbed-rung climb k h ∙ rw (higher-rungs climb)
 
-    pub carried-derivative : (k : ℕ) → m ≤ k → k < topRung (q .v) → carriedDerivative held k ≡ derivativeOf (q .function) (q .v) (q .x) k
-    unfolding stateOf
+    pub carried-derivative : (k : ℕ) → m ≤ k → k < topRung (q .v) → derivativeFrom held k ≡ derivativeOf (q .function) (q .v) (q .x) k
+    unfolding stateOf sequenceIn
     carried-derivative k h b =
-        carriedDerivative-is held k
+        carriedDerivative-is (sequenceIn held) (held .n) (held .low) (held .high) k
         ∙ rw (carried-value k (omega arith) (omega arith), carried-value (k + 1) (omega arith) (omega arith), held-state) (sym (derivative-by q k))
 
     pub carried-state : climbedTo held (topRung (q .v)) ≡ stateFor q (topRung (q .v))

@@ -18,7 +18,7 @@ use Rattle.ladder_machine.specs.Machine.{Request, Inputs, request, asked, refus
 use Rattle.ladder_machine.specs.Held.{countsEmpty, machineOf}
 use Rattle.ladder_machine.proofs.Laws.{machine-empty, accepted, Does, effect-means, next-by, held-stays, held-goes-on, held-starts}
 use Rattle.ladder.specs.declared.Ladder.{Ladder}
-use Rattle.ladder.specs.Ladder.{stateOf, heldIn, stateFor, carriedValue, carriedDerivative, climbedTo, pairThen, givenOn, Outcome, stateThen, valuesThen, derivativesThen, requested}
+use Rattle.ladder.specs.Ladder.{stateOf, heldIn, stateFor, valueFrom, derivativeFrom, climbedTo, pairThen, givenOn, Outcome, stateThen, valuesThen, derivativesThen, requested}
 use Rattle.ladder.specs.Ladder.Open.{stateFor-is, state-stays, state-goes-on, state-starts, values-stay, values-go-on, values-start, derivatives-stay, derivatives-go-on, derivatives-start, outcome-by, requested-is}
 use Rattle.ladder_lists.specs.Demand3.{ask, Long, tabledValue, tabledDerivative, stateDue, pairDue, valuesDue, derivativesDue, due, laterRequest}
 use Rattle.ladder_lists.proofs.Held.{Known, facts, state-machine, table-value, table-derivative, table-pair, state-after}
@@ -105,10 +105,10 @@ module _ (p : Finished) (known-p : KnownAt (some p)) (q : Request) (known-q : Kn
   kept-derivative = same-derivative (p .request) q (known-p .0) known-q (g .same) (p .n) (known-p .1) (g .on)
 
   -- and so is what is carried on from them
-  pub on-value : (k : ℕ) → m ≤ k + 1 → k ≤ n → carriedValue (stateFor (p .request) (p .n)) k ≡ valueOf (q .function) (q .v) (q .x) k
+  pub on-value : (k : ℕ) → m ≤ k + 1 → k ≤ n → valueFrom (stateFor (p .request) (p .n)) k ≡ valueOf (q .function) (q .v) (q .x) k
   on-value k a b = carried-value (p .request) q (known-p .0) known-q (g .same) (p .n) (known-p .1) (g .on) k (omega (arith, g .from)) (omega (arith, g .to))
 
-  pub on-derivative : (k : ℕ) → m ≤ k → k < n → carriedDerivative (stateFor (p .request) (p .n)) k ≡ derivativeOf (q .function) (q .v) (q .x) k
+  pub on-derivative : (k : ℕ) → m ≤ k → k < n → derivativeFrom (stateFor (p .request) (p .n)) k ≡ derivativeOf (q .function) (q .v) (q .x) k
   on-derivative k a b = carried-derivative (p .request) q (known-p .0) known-q (g .same) (p .n) (known-p .1) (g .on) k (omega (arith, g .from)) (omega (arith, g .to))
 
   pub on-state : climbedTo (stateFor (p .request) (p .n)) n ≡ stateFor q n
@@ -166,11 +166,11 @@ module _ (table : Request → List Float) (long : Long table) (q : Request) (l d
         pair = rw (state, ← a .1) (sym (table-pair q known table long));
         values =
             values-go-on s q l m n
-            ∙ filled-same (carriedValue s) (valueOf (q .function) (q .v) (q .x)) (m + 1) (m + 1) (m + 1) (n - m) l (λ j b. on-value p k q known g (m + 1 + j) (omega arith) (omega arith))
+            ∙ filled-same (valueFrom s) (valueOf (q .function) (q .v) (q .x)) (m + 1) (m + 1) (m + 1) (n - m) l (λ j b. on-value p k q known g (m + 1 + j) (omega arith) (omega arith))
             ∙ values-are table long q known (m + 1) (n - m) l (omega (arith, g .to));
         derivatives =
             derivatives-go-on s q d m n
-            ∙ filled-same (carriedDerivative s) (derivativeOf (q .function) (q .v) (q .x)) m m m (n - m) d (λ j b. on-derivative p k q known g (m + j) (omega arith) (omega arith))
+            ∙ filled-same (derivativeFrom s) (derivativeOf (q .function) (q .v) (q .x)) m m m (n - m) d (λ j b. on-derivative p k q known g (m + j) (omega arith) (omega arith))
             ∙ derivatives-are table long q known m (n - m) d (omega (arith, g .to));
         known = (known, sym (g .to));
       }

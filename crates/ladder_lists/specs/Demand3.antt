@@ -1,6 +1,8 @@
--- DEMAND 3 (the mission's third; 01, "The ladder"), as one statement: `Demand3`, at the end. Of the ladder it cites `requested`, which the contract of
--- `Ladder::request` equates with its reply and both tables, and `emptyState`, which that of `Ladder::empty` equates with its result. All else is in the
--- documents' words: 01's machine (crates/ladder_machine/specs), the table call's `answer` and `tableAfter`, a step of the recurrence, the derivative formula, slots.
+-- DEMAND 3 (the mission's third; 01, "The ladder"), as one statement: `Demand3`, at the end. Of the ladder it cites
+-- `requested`, which the contract of `Ladder::request` equates with its reply and both tables, and `emptyState`, which
+-- that of `Ladder::empty` equates with its result. All else is in the documents' words: 01's machine
+-- (crates/ladder_machine/specs), the table call's `answer` and `tableAfter`, a step of the recurrence, the derivative
+-- formula, slots.
 use mathlib.Core.Path.{_≡_}
 use mathlib.Core.List.{List, [], _∷_, map}
 use mathlib.Core.Logic.{_⊎_}
@@ -16,7 +18,9 @@ use Rattle.derivatives.specs.Derivatives.{derivative}
 use Rattle.slots.specs.Slots.{filled, slot}
 use Rattle.tables.specs.Tables.{tableAfter, answer}
 use Rattle.ladder_machine.specs.declared.Held.{Held}
-use Rattle.ladder_machine.specs.Machine.{Request, Inputs, request, Feed, Machine, empty, holds, Verdict, refuses, repeats, climbs, startsOver, refusedBy, written, Effect, stays, goesOn, startsAt, effect, verdict, next, verdicts, after}
+use Rattle.ladder_machine.specs.Machine.{Request, Inputs, request, Feed, Machine, empty, holds, Verdict, refuses}
+use Rattle.ladder_machine.specs.Machine.{repeats, climbs, startsOver, refusedBy, written, Effect, stays, goesOn}
+use Rattle.ladder_machine.specs.Machine.{startsAt, effect, verdict, next, verdicts, after}
 use Rattle.ladder_machine.specs.Held.{countsEmpty, machineOf}
 use Rattle.ladder.specs.declared.Ladder.{Ladder}
 use Rattle.ladder.specs.Ladder.{emptyState, Outcome, outcome, requested}
@@ -154,8 +158,8 @@ Onward l l' = take (length l) l' ≡ l
 abbrev pub Handed : List Float → List Float → Call → Type 0
 Handed values derivatives c = Onward values (c .values) × Onward derivatives (c .derivatives)
 
--- whether each call after the last start-over got the tables as the one before left them: `so-far` says it up to a call, a start-over begins anew, and
--- `values` and `derivatives` are what the call before left
+-- whether each call after the last start-over got the tables as the one before left them: `so-far` says it up to a
+-- call, a start-over begins anew, and `values` and `derivatives` are what the call before left
 abbrev pub Anew : Type 0 → Type 0 → Effect → Type 0
 Anew so-far here stays = so-far × here
 Anew so-far here (goesOn m n) = so-far × here
@@ -186,7 +190,8 @@ unfoldable pub lastDerivatives : List Float → List Lent → List Float
 lastDerivatives l [] = l
 lastDerivatives l (t ∷ ts) = lastDerivatives (t .derivatives) ts
 
--- the rungs of an n are slots 0 to n of the value table and 0 to n − 1 of the derivative table; there are none where the machine is empty
+-- the rungs of an n are slots 0 to n of the value table and 0 to n − 1 of the derivative table; there are none where
+-- the machine is empty
 abbrev pub Rungs : (Request → List Float) → Machine → Option Request → List Float → List Float → Type 0
 Rungs table empty o values derivatives = Unit
 Rungs table (holds fn s x f n) none values derivatives = ⊥
@@ -196,11 +201,13 @@ Rungs table (holds fn s x f n) (some q) values derivatives =
 -- ---- the claim about a list, from a state that counts as empty
 
 pub record ListRight (table : Request → List Float) (s : Ladder) (cs : List Call) : Type 0 where
-  -- every call, in one equation: answers, counts, the machine's refusals and no others, states handed back, and every slot of both tables
+  -- every call, in one equation: answers, counts, the machine's refusals and no others, states handed back, and every
+  -- slot of both tables
   pub calls : map left (turns s cs) ≡ dueAll table s (verdicts empty (map fed cs)) cs
   -- the machine begun with the last state is the list's
   pub machine : machineOf (fields (lastState s (turns s cs))) ≡ after empty (map fed cs)
-  -- where every call after the last start-over got the tables as the one before left them: all rungs are the table call's
+  -- where every call after the last start-over got the tables as the one before left them: all rungs are the table
+  -- call's
   pub rungs : HandedOn Unit [] [] (verdicts empty (map fed cs)) (map lent (turns s cs))
       → Rungs table (after empty (map fed cs)) (lastAccepted none (verdicts empty (map fed cs)) cs) (lastValues [] (map lent (turns s cs))) (lastDerivatives [] (map lent (turns s cs)))
 
@@ -222,7 +229,8 @@ pub record Climbed (s : Ladder) (m n : ℕ) (l d : List Float) (o : Outcome) : T
   pub low : w (m - 1) ≡ s .low
   pub high : w m ≡ s .high
   pub carried : (k : ℕ) → m < k → k ≤ n → w k ≡ step (s .function) (s .below) (s .x) (s .f) k (w (k - 2)) (w (k - 1))
-  -- slot k of the values is w(k) for m < k ≤ n, and slot k of the derivatives the formula over w(k) and w(k + 1) for m ≤ k < n
+  -- slot k of the values is w(k) for m < k ≤ n, and slot k of the derivatives the formula over w(k) and w(k + 1) for m
+  -- ≤ k < n
   pub values : JustWritten w (m + 1) (n - m) l (o .values)
   pub derivatives : JustWritten (λ k. derivative (s .function) (s .below) (s .x) (s .f) k (w k) (w (k + 1))) m (n - m) d (o .derivatives)
   -- the state handed out holds w(n − 1) and w(n), and the pair is w(n − 1) with its formula
@@ -243,16 +251,19 @@ pub record StateRight (table : Request → List Float) (s : Ladder) (q : Request
       (record { state = s; refusal = 0; pair = some (s .low, derivative (s .function) (s .below) (s .x) (s .f) (n - 1) (s .low) (s .high)); written = some 0 })
       values
       derivatives)
-  pub climb : (m n : ℕ) → says s (ask q values derivatives) ≡ climbs m n → (s .n ≡ m) × (topRung (q .v) ≡ n) × (2 ≤ m) × (m < n)
+  pub climb : (m n : ℕ) → says s (ask q values derivatives) ≡ climbs m n
+      → (s .n ≡ m) × (topRung (q .v) ≡ n) × (2 ≤ m) × (m < n)
       × Climbed s m n values derivatives (requested s q values derivatives)
   -- all rungs of the request are the table call's, and so are the two values held
-  pub start-over : (n : ℕ) → Number (request q) → says s (ask q values derivatives) ≡ startsOver n → (topRung (q .v) ≡ n)
+  pub start-over : (n : ℕ) → Number (request q) → says s (ask q values derivatives) ≡ startsOver n
+      → (topRung (q .v) ≡ n)
       × (requested s q values derivatives
       ≡ outcome (record { state = heldAfter table q n; refusal = 0; pair = answer (q .function) (q .v) (q .x) (length (table q)); written = some (n + 1) })
       (filled (tabledValue table q) 0 0 (n + 1) values)
       (filled (tabledDerivative table q) 0 0 n derivatives))
   -- no accepted call hands out a state that counts as empty
-  pub holding : Number (request q) → refusedBy (says s (ask q values derivatives)) ≡ 0 → countsEmpty (fields (requested s q values derivatives .given .state)) ≡ false
+  pub holding : Number (request q) → refusedBy (says s (ask q values derivatives)) ≡ 0
+      → countsEmpty (fields (requested s q values derivatives .given .state)) ≡ false
   -- the machine of the state handed out is the machine's next
   pub machine : Number (request q) → machineOf (fields (requested s q values derivatives .given .state)) ≡ next (machineOf (fields s)) (fed (ask q values derivatives))
 
@@ -261,5 +272,7 @@ pub record StateRight (table : Request → List Float) (s : Ladder) (q : Request
 pub record Demand3 : Type 0 where
   -- a ladder that holds nothing counts as empty
   pub begins : countsEmpty (fields emptyState) ≡ true
-  pub lists : (table : Request → List Float) → Long table → (s : Ladder) → countsEmpty (fields s) ≡ true → (cs : List Call) → Numbers cs → ListRight table s cs
-  pub any-state : (table : Request → List Float) → Long table → (s : Ladder) (q : Request) (values derivatives : List Float) → StateRight table s q values derivatives
+  pub lists : (table : Request → List Float) → Long table → (s : Ladder) → countsEmpty (fields s) ≡ true
+      → (cs : List Call) → Numbers cs → ListRight table s cs
+  pub any-state : (table : Request → List Float) → Long table
+      → (s : Ladder) (q : Request) (values derivatives : List Float) → StateRight table s q values derivatives

@@ -1,4 +1,5 @@
--- 01's examples that are proved, P1 to P12 ("Examples at the edges"), as one list and one claim about it. A computed number stands beside 01's own.
+-- 01's examples that are proved, P1 to P12 ("Examples at the edges"), as one list and one claim about it. A computed
+-- number stands beside 01's own.
 use mathlib.Core.Path.{_≡_}
 use mathlib.Core.List.{List, [], _∷_, map}
 use mathlib.Core.Option.{Option, some}

@@ -3,7 +3,8 @@
 ghost use Rattle.ladder_lists.specs.Demand3.{Demand3};
 ghost use Rattle.ladder_lists.specs.Examples.{Examples};
 
-// The theorem about every list of requests, and about every state handed in. The statement is specs/Demand3.antt, the proof proofs/Lists.antt.
+// The theorem about every list of requests, and about every state handed in. The statement is specs/Demand3.antt, the
+// proof proofs/Lists.antt.
 pub fn demand_three()
     ensures { λ _. ⌜ Demand3 ⌝ }
 {}

@@ -1,7 +1,9 @@
--- The rungs of D and V (01, "Upward, downward, scaled"; the source's pbdv_impl and pbvv_impl), each operation rounded. The steps are of `recurrence`.
--- Rung k has the order f + k on the side v ≥ 0 and f − k below 0, where `below` is true. DLMF's U(a, x) and V(a, x) have a = −order − ½; D is U.
--- A `Sequence` says which rungs: the function, the side, the argument x and the fraction f. The values of two neighbouring rungs are a pair, that of the
--- lower number first.
+-- The rungs of D and V (01, "Upward, downward, scaled"; the source's pbdv_impl and pbvv_impl), each operation rounded.
+-- The steps are of `recurrence`.
+-- Rung k has the order f + k on the side v ≥ 0 and f − k below 0, where `below` is true. DLMF's U(a, x) and V(a, x)
+-- have a = −order − ½; D is U.
+-- A `Sequence` says which rungs: the function, the side, the argument x and the fraction f. The values of two
+-- neighbouring rungs are a pair, that of the lower number first.
 use Prim.Native.Nat.{ℕ, _+_, _-_}
 use mathlib.Core.Bool.{Bool, true, false, cond}
 use lib.Ieee.{Float, neg, le, eq}
@@ -72,7 +74,8 @@ rung r = continued (λ i. nextRung (r .function) (r .below) (r .x) (r .f) (i + 2
 
 -- rung k, from `low` and `high` at top and top + 1 down: term j of the sequence is rung top + 1 − j
 pub descent : Sequence → ℕ → Float → Float → ℕ → Float
-descent r top low high k = continued (λ j b a. stepDown (r .function) (r .x) (r .f) (top - 1 - j) a b) high low (top + 1 - k)
+descent r top low high k =
+    continued (λ j b a. stepDown (r .function) (r .x) (r .f) (top - 1 - j) a b) high low (top + 1 - k)
 
 -- the orders of rungs n − 1 and n. D's is N + f, N being −n, and V's is u.
 pub topOrders : Function → Float → Float → ℕ → Float × Float

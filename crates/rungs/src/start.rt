@@ -1,7 +1,8 @@
 // The values that the branches start from.
 
 ghost use mathlib.Core.Path.{_≡_};
-ghost use Rattle.rungs.specs.Rungs.{startSum, smallLimit, startValue, startsGaussian, nextOrder, startRungs, topRungs, seed};
+ghost use Rattle.rungs.specs.Rungs.{startSum, smallLimit, startValue, startsGaussian, nextOrder, startRungs};
+ghost use Rattle.rungs.specs.Rungs.{topRungs, seed};
 use crate::Adjacent;
 use crate::Sequence;
 use exponential::exp;

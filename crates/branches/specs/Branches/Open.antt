@@ -22,11 +22,13 @@ pub branchOf-D-above : (x : Float) (u : Float) → branchOf D false x u ≡ Forw
 unfolding branchOf
 branchOf-D-above x u = refl
 
-pub branchOf-D-below : (x : Float) (u : Float) → branchOf D true x u ≡ cond (le x f0) Forward (cond (le x f2) Downward Scaled)
+pub branchOf-D-below : (x : Float) (u : Float)
+    → branchOf D true x u ≡ cond (le x f0) Forward (cond (le x f2) Downward Scaled)
 unfolding branchOf
 branchOf-D-below x u = refl
 
-pub branchOf-V-above : (x : Float) (u : Float) → branchOf «V» false x u ≡ cond (runsDown x u) Downward (cond (lt f7·5 x) Scaled Forward)
+pub branchOf-V-above : (x : Float) (u : Float)
+    → branchOf «V» false x u ≡ cond (runsDown x u) Downward (cond (lt f7·5 x) Scaled Forward)
 unfolding branchOf
 branchOf-V-above x u = refl
 
@@ -46,6 +48,7 @@ pub isForward-Scaled : isForward Scaled ≡ false
 unfolding isForward
 isForward-Scaled = refl
 
-pub runsForward-is : (fn : Function) (below : Bool) (x : Float) (u : Float) → runsForward fn below x u ≡ isForward (branchOf fn below x u)
+pub runsForward-is : (fn : Function) (below : Bool) (x : Float) (u : Float)
+    → runsForward fn below x u ≡ isForward (branchOf fn below x u)
 unfolding runsForward
 runsForward-is fn below x u = refl

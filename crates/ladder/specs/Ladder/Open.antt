@@ -1,4 +1,5 @@
--- What each shut definition is, for the proofs about the ladder: those of this crate, and those of `lists`, which states demand 3 of these definitions.
+-- What each shut definition is, for the proofs about the ladder: those of this crate, and those of `lists`, which
+-- states demand 3 of these definitions.
 use mathlib.Core.Path.{_≡_, refl}
 use mathlib.Core.List.{List}
 use Prim.Native.Nat.{ℕ, _+_, _-_}
@@ -7,15 +8,15 @@ use lib.ListN.{length}
 use lib.Ieee.{Float}
 use Rattle.floats.specs.Operations.{f0}
 use Rattle.floats.specs.declared.Function.the-variants.{D}
-use Rattle.recurrence.specs.Recurrence.{step}
-use Rattle.recurrence.specs.ThreeTerm.{continued}
 use Rattle.derivatives.specs.Derivatives.{derivative}
 use Rattle.slots.specs.Slots.{filled}
 use Rattle.tables.specs.Tables.{sequenceOf, valueOf, derivativeOf}
 use Rattle.ladder_machine.specs.Machine.{Request, asked, Verdict, stays, goesOn, startsAt, effect, verdict}
 use Rattle.ladder_machine.specs.Held.{machineOf}
 use Rattle.ladder.specs.declared.Ladder.{Ladder}
-use Rattle.ladder.specs.Ladder.{stateOf, sequenceIn, heldIn, emptyState, stateFor, carriedValue, carriedDerivative, climbedTo, pairFrom, givenOn, outcome, stateThen, valuesThen, derivativesThen, outcomeBy, requested}
+use Rattle.ladder.specs.Ladder.{stateOf, sequenceIn, heldIn, emptyState, stateFor, valueFrom, derivativeFrom}
+use Rattle.ladder.specs.Ladder.{climbedTo, pairFrom, givenOn, outcome, stateThen, valuesThen, derivativesThen}
+use Rattle.ladder.specs.Ladder.{outcomeBy, requested}
 
 pub emptyState-is : emptyState ≡ stateOf (record { function = D; below = false; x = f0; f = f0 }) 0 f0 f0
 unfolding emptyState
@@ -28,17 +29,7 @@ unfolding stateFor
 stateFor-is q n = refl
 
 module _ (s : Ladder) where
-  pub carriedValue-is : (k : ℕ)
-      → carriedValue s k ≡ continued (λ i. step (s .function) (s .below) (s .x) (s .f) (s .n + 1 + i)) (s .low) (s .high) (k + 1 - s .n)
-  unfolding carriedValue
-  carriedValue-is k = refl
-
-  pub carriedDerivative-is : (k : ℕ)
-      → carriedDerivative s k ≡ derivative (s .function) (s .below) (s .x) (s .f) k (carriedValue s k) (carriedValue s (k + 1))
-  unfolding carriedDerivative
-  carriedDerivative-is k = refl
-
-  pub climbedTo-is : (n : ℕ) → climbedTo s n ≡ stateOf (sequenceIn s) n (carriedValue s (n - 1)) (carriedValue s n)
+  pub climbedTo-is : (n : ℕ) → climbedTo s n ≡ stateOf (sequenceIn s) n (valueFrom s (n - 1)) (valueFrom s n)
   unfolding climbedTo
   climbedTo-is n = refl
 
@@ -64,11 +55,12 @@ module _ (s : Ladder) (q : Request) (l : List Float) where
   unfolding valuesThen
   values-stay = refl
 
-  pub values-go-on : (m n : ℕ) → valuesThen (goesOn m n) s q l ≡ filled (carriedValue s) (m + 1) (m + 1) (n - m) l
+  pub values-go-on : (m n : ℕ) → valuesThen (goesOn m n) s q l ≡ filled (valueFrom s) (m + 1) (m + 1) (n - m) l
   unfolding valuesThen
   values-go-on m n = refl
 
-  pub values-start : (n : ℕ) → valuesThen (startsAt n) s q l ≡ filled (valueOf (q .function) (q .v) (q .x)) 0 0 (n + 1) l
+  pub values-start : (n : ℕ)
+      → valuesThen (startsAt n) s q l ≡ filled (valueOf (q .function) (q .v) (q .x)) 0 0 (n + 1) l
   unfolding valuesThen
   values-start n = refl
 
@@ -76,11 +68,12 @@ module _ (s : Ladder) (q : Request) (l : List Float) where
   unfolding derivativesThen
   derivatives-stay = refl
 
-  pub derivatives-go-on : (m n : ℕ) → derivativesThen (goesOn m n) s q l ≡ filled (carriedDerivative s) m m (n - m) l
+  pub derivatives-go-on : (m n : ℕ) → derivativesThen (goesOn m n) s q l ≡ filled (derivativeFrom s) m m (n - m) l
   unfolding derivativesThen
   derivatives-go-on m n = refl
 
-  pub derivatives-start : (n : ℕ) → derivativesThen (startsAt n) s q l ≡ filled (derivativeOf (q .function) (q .v) (q .x)) 0 0 n l
+  pub derivatives-start : (n : ℕ)
+      → derivativesThen (startsAt n) s q l ≡ filled (derivativeOf (q .function) (q .v) (q .x)) 0 0 n l
   unfolding derivativesThen
   derivatives-start n = refl
 

@@ -15,7 +15,8 @@ use Rattle.recurrence.specs.ThreeTerm.{continued}
 use Rattle.branches.specs.Constants.{f7·5}
 use Rattle.rungs.specs.declared.Sequence.{Sequence}
 use Rattle.rungs.specs.Constants.{f5·8, seedD, seedV}
-use Rattle.rungs.specs.Rungs.{startSum, smallLimit, startValue, gaussian, growth, startsGaussian, nextOrder, startRungs, rung}
+use Rattle.rungs.specs.Rungs.{startSum, smallLimit, startValue, gaussian, growth, startsGaussian, nextOrder}
+use Rattle.rungs.specs.Rungs.{startRungs, rung}
 use Rattle.rungs.specs.Rungs.{descent, topOrders, topRungs, downwardRung, seed, rawRung, scaledRung}
 
 pub startSum-D-small : (x : Float) (va : Float) → startSum D false x va ≡ dvsa x va
@@ -105,7 +106,8 @@ pub topRungs-is : (r : Sequence) (u : Float) (n : ℕ)
 unfolding topRungs
 topRungs-is r u n = refl
 
-pub downwardRung-is : (r : Sequence) (u : Float) (n : ℕ) → downwardRung r u n ≡ descent r (n - 1) (topRungs r u n .0) (topRungs r u n .1)
+pub downwardRung-is : (r : Sequence) (u : Float) (n : ℕ)
+    → downwardRung r u n ≡ descent r (n - 1) (topRungs r u n .0) (topRungs r u n .1)
 unfolding downwardRung
 downwardRung-is r u n = refl
 

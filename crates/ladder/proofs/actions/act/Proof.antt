@@ -9,6 +9,7 @@ use lib.Ieee.{binary64, fits}
 use Rattle.order.specs.Order.{topRung}
 use Rattle.ladder_machine.specs.Machine.{asks, refusal, refuses, repeats, climbs, startsOver}
 use Rattle.ladder_machine.specs.Held.{verdictOf}
+use Rattle.ladder_climb.proofs.Room.{room-above}
 use Rattle.ladder.proofs.Outcomes.{repeat-held, climb-room, start-room, refused-outcome, repeated-outcome, climbed-outcome, started-outcome, climbed-n, state-n}
 use Rattle.ladder.proofs.actions.act.Statement.{statement}
 use Rattle.ladder.proofs.actions.act.Tie as tie
@@ -64,7 +65,7 @@ repeats-held c =
     repeat-held (g .s) (asks (g .function) (g .v) (g .x)) (g .values .now) (g .derivatives .now) (verdictOf (g .judgement)) (start .pre) _ (repeats-told c)
 
 climb-requires : tie.Need-climb-requires
-climb-requires c κs = let r = climbs-in (c .before .before .before) in (r .0, (r .1, (r .2, (r .3, r .4))))
+climb-requires c κs = let r = climbs-in (c .before .before .before) in room-above _ _ _ _ (r .0) (omega (arith, r)) (r .2) (r .3) (r .4)
 
 answer-requires-2 : tie.Need-answer-requires-2
 answer-requires-2 c κs =

@@ -45,7 +45,9 @@ heldIn s = record { function = s .function; below = s .below; x = s .x; f = s .f
 
 -- the state that holds rungs 0 to n of a request, with values n − 1 and n of the table call
 pub stateFor : Request → ℕ → Ladder
-stateFor q n = stateOf (sequenceOf (q .function) (q .v) (q .x)) n (valueOf (q .function) (q .v) (q .x) (n - 1)) (valueOf (q .function) (q .v) (q .x) n)
+stateFor q n =
+    let value = valueOf (q .function) (q .v) (q .x) in
+    stateOf (sequenceOf (q .function) (q .v) (q .x)) n (value (n - 1)) (value n)
 
 -- ---- a climb
 
@@ -79,7 +81,12 @@ writtenOf (Count count) = some count
 writtenOf Nothing = none
 
 unfoldable pub givenBy : Reply → Given
-givenBy r = record { state = r .state; refusal = refusalOf (r .answer); pair = pairOf (r .answer); written = writtenOf (r .written) }
+givenBy r = record {
+  state = r .state;
+  refusal = refusalOf (r .answer);
+  pair = pairOf (r .answer);
+  written = writtenOf (r .written);
+}
 
 -- a refusal gives its number alone, and any other request answers from the state that it hands back
 unfoldable pub pairThen : Effect → Ladder → Option (Float × Float)
@@ -124,7 +131,8 @@ derivativesThen (startsAt n) s q l = filled (derivativeOf (q .function) (q .v) (
 -- by what the machine says
 pub outcomeBy : Verdict → Ladder → Request → List Float → List Float → Outcome
 outcomeBy w s q values derivatives =
-    outcome (givenOn w (stateThen (effect w) s q)) (valuesThen (effect w) s q values) (derivativesThen (effect w) s q derivatives)
+    let e = effect w in
+    outcome (givenOn w (stateThen e s q)) (valuesThen e s q values) (derivativesThen e s q derivatives)
 
 -- the machine begun with the state's fields says which it is
 pub requested : Ladder → Request → List Float → List Float → Outcome

@@ -21,7 +21,8 @@ carriedValue r n low high k =
 -- derivative k
 pub carriedDerivative : Sequence → ℕ → Float → Float → ℕ → Float
 carriedDerivative r n low high k =
-    derivative (r .function) (r .below) (r .x) (r .f) k (carriedValue r n low high k) (carriedValue r n low high (k + 1))
+    let value = carriedValue r n low high in
+    derivative (r .function) (r .below) (r .x) (r .f) k (value k) (value (k + 1))
 
 -- whether tables of these lengths hold the rungs above n up to `top`: n is 1 or more, `top` is not below it and at most
 -- 1000, as in every order, and there are top + 1 values and `top` derivatives
@@ -32,7 +33,8 @@ roomAbove n top values derivatives = leb 1 n && leb n top && leb top 1000 && ltb
 -- low and high, and nothing
 pub topValues : Sequence → ℕ → Float → Float → ℕ → ℕ → ℕ → Float × Float
 topValues r n low high top values derivatives =
-    cond (roomAbove n top values derivatives) (carriedValue r n low high (top - 1), carriedValue r n low high top) (low, high)
+    let value = carriedValue r n low high in
+    cond (roomAbove n top values derivatives) (value (top - 1), value top) (low, high)
 
 pub climbedValues : Sequence → ℕ → Float → Float → ℕ → List Float → ℕ → List Float
 climbedValues r n low high top l derivatives =

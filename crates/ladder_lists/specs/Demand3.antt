@@ -23,7 +23,7 @@ use Rattle.ladder_machine.specs.Machine.{repeats, climbs, startsOver, refusedBy
 use Rattle.ladder_machine.specs.Machine.{startsAt, effect, verdict, next, verdicts, after}
 use Rattle.ladder_machine.specs.Held.{countsEmpty, machineOf}
 use Rattle.ladder.specs.declared.Ladder.{Ladder}
-use Rattle.ladder.specs.Ladder.{emptyState, Outcome, outcome, requested}
+use Rattle.ladder.specs.Ladder.{Given, emptyState, Outcome, outcome, requested}
 
 -- ---- a list of calls, and its turns
 
@@ -71,7 +71,16 @@ abbrev pub Numbers : List Call → Type 0
 Numbers [] = Unit
 Numbers (c ∷ cs) = Number (c .inputs) × Numbers cs
 
--- ---- the table call for a request alone: a table for each request, long enough for each that 1 and 2 let pass, whatever it holds
+-- what a request gives: the state handed back, the refusal's number, the pair and the written count
+abbrev pub gives : Ladder → ℕ → Option (Float × Float) → Option ℕ → Given
+gives s number pair count = record { state = s; refusal = number; pair = pair; written = count }
+
+-- derivative k of a state's function, by the formula over two values
+abbrev pub derived : Ladder → ℕ → Float → Float → Float
+derived s k low high = derivative (s .function) (s .below) (s .x) (s .f) k low high
+
+-- ---- the table call for a request alone: a table for each request, long enough for each that 1 and 2 let pass,
+-- whatever it holds
 
 abbrev pub Long : (Request → List Float) → Type 0
 Long table = (q : Request) → isNan (q .v) ≡ false → tooLarge (q .v) ≡ false → 2 * num (q .v) ≤ length (table q)
@@ -98,8 +107,9 @@ heldAfter table q n = record {
   high = tabledValue table q n;
 }
 
--- ---- what is due to a call, where s is the state given and the machine has spoken. What goes on from m to n has values m + 1 to n and derivatives m to n − 1
--- written; what starts over at n has values 0 to n and derivatives 0 to n − 1.
+-- ---- what is due to a call, where s is the state given and the machine has spoken. What goes on from m to n has
+-- values m + 1 to n and derivatives m to n − 1 written; what starts over at n has values 0 to n and derivatives 0 to
+-- n − 1.
 
 module _ (table : Request → List Float) where
   unfoldable pub stateDue : Ladder → Effect → Inputs → Ladder
@@ -126,7 +136,8 @@ module _ (table : Request → List Float) where
   -- what is handed back and answered, and both tables, every slot
   unfoldable pub due : Ladder → Verdict → Call → Outcome
   due s w c =
-      outcome (record { state = stateDue s (effect w) (c .inputs); refusal = refusedBy w; pair = pairDue (effect w) (c .inputs); written = written w })
+      outcome
+      (gives (stateDue s (effect w) (c .inputs)) (refusedBy w) (pairDue (effect w) (c .inputs)) (written w))
       (valuesDue (effect w) (c .inputs) (c .values))
       (derivativesDue (effect w) (c .inputs) (c .derivatives))
 
@@ -196,7 +207,8 @@ abbrev pub Rungs : (Request → List Float) → Machine → Option Request → L
 Rungs table empty o values derivatives = Unit
 Rungs table (holds fn s x f n) none values derivatives = ⊥
 Rungs table (holds fn s x f n) (some q) values derivatives =
-    (take (n + 1) values ≡ take (n + 1) (tabled table q)) × (take n derivatives ≡ take n (drop (num (q .v)) (tabled table q)))
+    (take (n + 1) values ≡ take (n + 1) (tabled table q))
+    × (take n derivatives ≡ take n (drop (num (q .v)) (tabled table q)))
 
 -- ---- the claim about a list, from a state that counts as empty
 
@@ -209,7 +221,9 @@ pub record ListRight (table : Request → List Float) (s : Ladder) (cs : List Ca
   -- where every call after the last start-over got the tables as the one before left them: all rungs are the table
   -- call's
   pub rungs : HandedOn Unit [] [] (verdicts empty (map fed cs)) (map lent (turns s cs))
-      → Rungs table (after empty (map fed cs)) (lastAccepted none (verdicts empty (map fed cs)) cs) (lastValues [] (map lent (turns s cs))) (lastDerivatives [] (map lent (turns s cs)))
+      → Rungs table (after empty (map fed cs)) (lastAccepted none (verdicts empty (map fed cs)) cs)
+      (lastValues [] (map lent (turns s cs)))
+      (lastDerivatives [] (map lent (turns s cs)))
 
 -- ---- the claim about any state handed in, with any tables: the machine begun with its fields says which case it is
 
@@ -229,28 +243,26 @@ pub record Climbed (s : Ladder) (m n : ℕ) (l d : List Float) (o : Outcome) : T
   pub low : w (m - 1) ≡ s .low
   pub high : w m ≡ s .high
   pub carried : (k : ℕ) → m < k → k ≤ n → w k ≡ step (s .function) (s .below) (s .x) (s .f) k (w (k - 2)) (w (k - 1))
-  -- slot k of the values is w(k) for m < k ≤ n, and slot k of the derivatives the formula over w(k) and w(k + 1) for m
-  -- ≤ k < n
+  -- slot k of the values is w(k) for m < k ≤ n, and slot k of the derivatives the formula over w(k) and w(k + 1) for
+  -- m ≤ k < n
   pub values : JustWritten w (m + 1) (n - m) l (o .values)
-  pub derivatives : JustWritten (λ k. derivative (s .function) (s .below) (s .x) (s .f) k (w k) (w (k + 1))) m (n - m) d (o .derivatives)
+  pub derivatives : JustWritten (λ k. derived s k (w k) (w (k + 1))) m (n - m) d (o .derivatives)
   -- the state handed out holds w(n − 1) and w(n), and the pair is w(n − 1) with its formula
   pub state : o .given .state
       ≡ record { function = s .function; below = s .below; x = s .x; f = s .f; n = n; low = w (n - 1); high = w n }
-  pub pair : o .given .pair ≡ some (w (n - 1), derivative (s .function) (s .below) (s .x) (s .f) (n - 1) (w (n - 1)) (w n))
+  pub pair : o .given .pair ≡ some (w (n - 1), derived s (n - 1) (w (n - 1)) (w n))
   pub refusal : o .given .refusal ≡ 0
   pub written : o .given .written ≡ some (n - m)
 
-pub record StateRight (table : Request → List Float) (s : Ladder) (q : Request) (values derivatives : List Float) : Type 0 where
+pub record StateRight (table : Request → List Float) (s : Ladder) (q : Request)
+    (values derivatives : List Float) : Type 0 where
   -- a refusal gives its number alone, and leaves state and tables as found
   pub refusal : (number : ℕ) → says s (ask q values derivatives) ≡ refuses number
-      → requested s q values derivatives ≡ outcome (record { state = s; refusal = number; pair = none; written = none }) values derivatives
+      → requested s q values derivatives ≡ outcome (gives s number none none) values derivatives
   -- value n − 1 and the derivative formula over both values of the state; nothing changes
   pub repeat : (n : ℕ) → says s (ask q values derivatives) ≡ repeats n → (s .n ≡ n) × (topRung (q .v) ≡ n)
       × (requested s q values derivatives
-      ≡ outcome
-      (record { state = s; refusal = 0; pair = some (s .low, derivative (s .function) (s .below) (s .x) (s .f) (n - 1) (s .low) (s .high)); written = some 0 })
-      values
-      derivatives)
+      ≡ outcome (gives s 0 (some (s .low, derived s (n - 1) (s .low) (s .high))) (some 0)) values derivatives)
   pub climb : (m n : ℕ) → says s (ask q values derivatives) ≡ climbs m n
       → (s .n ≡ m) × (topRung (q .v) ≡ n) × (2 ≤ m) × (m < n)
       × Climbed s m n values derivatives (requested s q values derivatives)
@@ -258,14 +270,17 @@ pub record StateRight (table : Request → List Float) (s : Ladder) (q : Request
   pub start-over : (n : ℕ) → Number (request q) → says s (ask q values derivatives) ≡ startsOver n
       → (topRung (q .v) ≡ n)
       × (requested s q values derivatives
-      ≡ outcome (record { state = heldAfter table q n; refusal = 0; pair = answer (q .function) (q .v) (q .x) (length (table q)); written = some (n + 1) })
+      ≡ outcome
+      (gives (heldAfter table q n) 0 (answer (q .function) (q .v) (q .x) (length (table q))) (some (n + 1)))
       (filled (tabledValue table q) 0 0 (n + 1) values)
       (filled (tabledDerivative table q) 0 0 n derivatives))
   -- no accepted call hands out a state that counts as empty
   pub holding : Number (request q) → refusedBy (says s (ask q values derivatives)) ≡ 0
       → countsEmpty (fields (requested s q values derivatives .given .state)) ≡ false
   -- the machine of the state handed out is the machine's next
-  pub machine : Number (request q) → machineOf (fields (requested s q values derivatives .given .state)) ≡ next (machineOf (fields s)) (fed (ask q values derivatives))
+  pub machine : Number (request q)
+      → machineOf (fields (requested s q values derivatives .given .state))
+      ≡ next (machineOf (fields s)) (fed (ask q values derivatives))
 
 -- ---- DEMAND 3
 

@@ -61,7 +61,10 @@ examples =
     ∷ (pair (answer D f1 f0 8), pair (some (decimal 0 0, decimal 1 0)))
     -- P7: the pair, and the values in a table of ten slots
     ∷ (pair (answer D (decimal 2 0) f0 10), pair (some (neg (decimal 1 0), decimal 0 0)))
-    ∷ (slots (take 4 (tableAfter D (decimal 2 0) f0 (replicate 10 f0))), slots (decimal 1 0 ∷ decimal 0 0 ∷ neg (decimal 1 0) ∷ neg (decimal 0 0) ∷ []))
+    ∷ (
+      slots (take 4 (tableAfter D (decimal 2 0) f0 (replicate 10 f0))),
+      slots (decimal 1 0 ∷ decimal 0 0 ∷ neg (decimal 1 0) ∷ neg (decimal 0 0) ∷ []),
+    )
     -- P8
     ∷ (pair (answer «V» (neg f1) f0 8), pair (some (decimal 7978845608028654 16, decimal 0 0)))
     -- P9

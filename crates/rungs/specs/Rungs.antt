@@ -40,7 +40,9 @@ smallLimit «V» = f7·5
 -- the start sum for an argument of this size (the source's `xa <= 5.8` and `xa <= 7.5`)
 pub startValue : Sequence → Float → Float
 startValue r va =
-    cond (le (absolute (r .x)) (smallLimit (r .function))) (startSum (r .function) false (r .x) va) (startSum (r .function) true (r .x) va)
+    cond (le (absolute (r .x)) (smallLimit (r .function)))
+    (startSum (r .function) false (r .x) va)
+    (startSum (r .function) true (r .x) va)
 
 -- e^(−x²/4), which is D of order 0 (12.7.1), and e^(x²/4)
 pub gaussian : Float → Float
@@ -64,7 +66,9 @@ nextOrder true f = f ⊖ f1
 pub startRungs : Sequence → Float × Float
 startRungs r =
     cond (startsGaussian (r .function) (r .below) (r .f)) (gaussian (r .x), r .x ⊗ gaussian (r .x))
-    (cond (ownRungTwo (r .function) (r .below) (r .f)) (startValue r (r .f), rootTwoOverPi ⊗ growth (r .x)) (startValue r (r .f), startValue r (nextOrder (r .below) (r .f))))
+    (cond (ownRungTwo (r .function) (r .below) (r .f))
+    (startValue r (r .f), rootTwoOverPi ⊗ growth (r .x))
+    (startValue r (r .f), startValue r (nextOrder (r .below) (r .f))))
 
 -- rung k of the forward branches, from rungs 0 and 1 on: a sequence that knows no n
 pub rung : Sequence → ℕ → Float
@@ -85,7 +89,8 @@ topOrders «V» u f n = (u ⊖ f1, u)
 -- rungs n − 1 and n, by the start sums for small arguments
 pub topRungs : Sequence → Float → ℕ → Float × Float
 topRungs r u n =
-    (startSum (r .function) false (r .x) (topOrders (r .function) u (r .f) n .0), startSum (r .function) false (r .x) (topOrders (r .function) u (r .f) n .1))
+    let orders = topOrders (r .function) u (r .f) n in
+    (startSum (r .function) false (r .x) (orders .0), startSum (r .function) false (r .x) (orders .1))
 
 -- rung k below them
 pub downwardRung : Sequence → Float → ℕ → ℕ → Float

@@ -24,7 +24,8 @@ emptyState-is = refl
 
 pub stateFor-is : (q : Request) (n : ℕ)
     → stateFor q n
-    ≡ stateOf (sequenceOf (q .function) (q .v) (q .x)) n (valueOf (q .function) (q .v) (q .x) (n - 1)) (valueOf (q .function) (q .v) (q .x) n)
+    ≡ stateOf (sequenceOf (q .function) (q .v) (q .x)) n (valueOf (q .function) (q .v) (q .x) (n - 1))
+    (valueOf (q .function) (q .v) (q .x) n)
 unfolding stateFor
 stateFor-is q n = refl
 
@@ -33,7 +34,8 @@ module _ (s : Ladder) where
   unfolding climbedTo
   climbedTo-is n = refl
 
-  pub pairFrom-is : pairFrom s ≡ (s .low, derivative (s .function) (s .below) (s .x) (s .f) (s .n - 1) (s .low) (s .high))
+  pub pairFrom-is : pairFrom s
+      ≡ (s .low, derivative (s .function) (s .below) (s .x) (s .f) (s .n - 1) (s .low) (s .high))
   unfolding pairFrom
   pairFrom-is = refl
 
@@ -80,7 +82,8 @@ module _ (s : Ladder) (q : Request) (l : List Float) where
 module _ (s : Ladder) (q : Request) (values derivatives : List Float) where
   pub outcome-by : (w : Verdict)
       → outcomeBy w s q values derivatives
-      ≡ outcome (givenOn w (stateThen (effect w) s q)) (valuesThen (effect w) s q values) (derivativesThen (effect w) s q derivatives)
+      ≡ outcome (givenOn w (stateThen (effect w) s q)) (valuesThen (effect w) s q values)
+      (derivativesThen (effect w) s q derivatives)
   unfolding outcomeBy
   outcome-by w = refl
 

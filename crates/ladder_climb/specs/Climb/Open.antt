@@ -15,19 +15,23 @@ use Rattle.ladder_climb.specs.Climb.{climbedDerivatives}
 
 module _ (r : Sequence) (n : ℕ) (low high : Float) where
   pub carriedValue-is : (k : ℕ)
-      → carriedValue r n low high k ≡ continued (λ i. step (r .function) (r .below) (r .x) (r .f) (n + 1 + i)) low high (k + 1 - n)
+      → carriedValue r n low high k
+      ≡ continued (λ i. step (r .function) (r .below) (r .x) (r .f) (n + 1 + i)) low high (k + 1 - n)
   unfolding carriedValue
   carriedValue-is k = refl
 
   pub carriedDerivative-is : (k : ℕ)
       → carriedDerivative r n low high k
-      ≡ derivative (r .function) (r .below) (r .x) (r .f) k (carriedValue r n low high k) (carriedValue r n low high (k + 1))
+      ≡ derivative (r .function) (r .below) (r .x) (r .f) k (carriedValue r n low high k)
+      (carriedValue r n low high (k + 1))
   unfolding carriedDerivative
   carriedDerivative-is k = refl
 
   pub topValues-is : (top values derivatives : ℕ)
       → topValues r n low high top values derivatives
-      ≡ cond (roomAbove n top values derivatives) (carriedValue r n low high (top - 1), carriedValue r n low high top) (low, high)
+      ≡ cond (roomAbove n top values derivatives)
+      (carriedValue r n low high (top - 1), carriedValue r n low high top)
+      (low, high)
   unfolding topValues
   topValues-is top values derivatives = refl
 

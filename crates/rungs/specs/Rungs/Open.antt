@@ -44,7 +44,10 @@ unfolding smallLimit
 smallLimit-V = refl
 
 pub startValue-is : (r : Sequence) (va : Float)
-    → startValue r va ≡ cond (le (absolute (r .x)) (smallLimit (r .function))) (startSum (r .function) false (r .x) va) (startSum (r .function) true (r .x) va)
+    → startValue r va
+    ≡ cond (le (absolute (r .x)) (smallLimit (r .function)))
+    (startSum (r .function) false (r .x) va)
+    (startSum (r .function) true (r .x) va)
 unfolding startValue
 startValue-is r va = refl
 
@@ -79,16 +82,21 @@ nextOrder-below f = refl
 pub startRungs-is : (r : Sequence)
     → startRungs r
     ≡ cond (startsGaussian (r .function) (r .below) (r .f)) (gaussian (r .x), r .x ⊗ gaussian (r .x))
-    (cond (ownRungTwo (r .function) (r .below) (r .f)) (startValue r (r .f), rootTwoOverPi ⊗ growth (r .x)) (startValue r (r .f), startValue r (nextOrder (r .below) (r .f))))
+    (cond (ownRungTwo (r .function) (r .below) (r .f))
+    (startValue r (r .f), rootTwoOverPi ⊗ growth (r .x))
+    (startValue r (r .f), startValue r (nextOrder (r .below) (r .f))))
 unfolding startRungs
 startRungs-is r = refl
 
-pub rung-is : (r : Sequence) → rung r ≡ continued (λ i. nextRung (r .function) (r .below) (r .x) (r .f) (i + 2)) (startRungs r .0) (startRungs r .1)
+pub rung-is : (r : Sequence)
+    → rung r
+    ≡ continued (λ i. nextRung (r .function) (r .below) (r .x) (r .f) (i + 2)) (startRungs r .0) (startRungs r .1)
 unfolding rung
 rung-is r = refl
 
 pub descent-is : (r : Sequence) (top : ℕ) (low high : Float) (k : ℕ)
-    → descent r top low high k ≡ continued (λ j b a. stepDown (r .function) (r .x) (r .f) (top - 1 - j) a b) high low (top + 1 - k)
+    → descent r top low high k
+    ≡ continued (λ j b a. stepDown (r .function) (r .x) (r .f) (top - 1 - j) a b) high low (top + 1 - k)
 unfolding descent
 descent-is r top low high k = refl
 
@@ -102,7 +110,8 @@ topOrders-V u f n = refl
 
 pub topRungs-is : (r : Sequence) (u : Float) (n : ℕ)
     → topRungs r u n
-    ≡ (startSum (r .function) false (r .x) (topOrders (r .function) u (r .f) n .0), startSum (r .function) false (r .x) (topOrders (r .function) u (r .f) n .1))
+    ≡ (let orders = topOrders (r .function) u (r .f) n in
+    (startSum (r .function) false (r .x) (orders .0), startSum (r .function) false (r .x) (orders .1)))
 unfolding topRungs
 topRungs-is r u n = refl
 

@@ -153,7 +153,7 @@ pub extern "C" fn compared_gamma2(x: f64) -> f64
 pub extern "C" fn compared_dvsa(x: f64, va: f64) -> f64
     ensures { λ r. ⌜ r ≡ dvsa x va ⌝ }
 {
-    start_sums_large::dvsa(x, va)
+    start_sums_small::dvsa(x, va)
 }
 
 #[no_mangle]
@@ -167,7 +167,7 @@ pub extern "C" fn compared_dvla(x: f64, va: f64) -> f64
 pub extern "C" fn compared_vvsa(x: f64, va: f64) -> f64
     ensures { λ r. ⌜ r ≡ vvsa x va ⌝ }
 {
-    start_sums_large::vvsa(x, va)
+    start_sums_small::vvsa(x, va)
 }
 
 #[no_mangle]

@@ -13,8 +13,8 @@ pub fn examples() {
     line(b"P1 exp(0)", exponential::exp(0.0));
     line(b"P2 gamma2(5)", gamma::gamma2(5.0));
     line(b"P3 gamma2(-3)", gamma::gamma2(-3.0));
-    line(b"P4 dvsa(0, 1)", start_sums_large::dvsa(0.0, 1.0));
-    line(b"P4 dvsa(0, 0)", start_sums_large::dvsa(0.0, 0.0));
+    line(b"P4 dvsa(0, 1)", start_sums_small::dvsa(0.0, 1.0));
+    line(b"P4 dvsa(0, 0)", start_sums_small::dvsa(0.0, 0.0));
 }
 
 // The sine at whole quarter turns.
@@ -28,8 +28,8 @@ pub fn sines() {
 
 // V's start sum at whole orders, where the sine keeps 1e300 out.
 pub fn whole_orders() {
-    line(b"vvsa(1, 3)", start_sums_large::vvsa(1.0, 3.0));
-    line(b"vvsa(0, 2)", start_sums_large::vvsa(0.0, 2.0));
+    line(b"vvsa(1, 3)", start_sums_small::vvsa(1.0, 3.0));
+    line(b"vvsa(0, 2)", start_sums_small::vvsa(0.0, 2.0));
 }
 
 // The maximum at NaN: by itself, and in a series whose terms become NaN.

@@ -1,4 +1,5 @@
-// Lists of requests to a ladder. A line has the written count, the answer, and all slots of both tables; each slot holds -2.5 before the first request.
+// Lists of requests to a ladder. A line has the written count, the answer, and all slots of both tables; each slot
+// holds -2.5 before the first request.
 
 use crate::printing;
 use floats::Function;

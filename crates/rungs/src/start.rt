@@ -10,7 +10,7 @@ use floats::Function;
 use order::Rung;
 use recurrence::has_own_rung_two;
 use signs::abs;
-use start_sums_large::constants::SQRT_FRAC_2_PI;
+use start_sums_large::SQRT_FRAC_2_PI;
 
 // The function by its start sum, for large or for small arguments.
 fn start_sum(function: Function, large: bool, x: f64, va: f64) -> f64
@@ -21,13 +21,13 @@ fn start_sum(function: Function, large: bool, x: f64, va: f64) -> f64
             if large {
                 return start_sums_large::dvla(x, va);
             }
-            start_sums_large::dvsa(x, va)
+            start_sums_small::dvsa(x, va)
         }
         Function::V => {
             if large {
                 return start_sums_large::vvla(x, va);
             }
-            start_sums_large::vvsa(x, va)
+            start_sums_small::vvsa(x, va)
         }
     }
 }

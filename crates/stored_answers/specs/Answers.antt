@@ -14,8 +14,9 @@ use Rattle.stored_answers.specs.StartSums.{startSumsAnswer}
 use Rattle.stored_answers.specs.Tables.{tablesAnswer}
 use Rattle.stored_answers.specs.Expansion.{expansionAnswer}
 
--- number n at x and y: those up to 10 are the small functions, those up to 18 the elementary functions, those up to 23 gamma2 and the start
--- sums, and of the rest those whose last digit to the base 256 is up to 25 the table calls, the others the expansion and the Maclaurin series
+-- number n at x and y: those up to 10 are the small functions, those up to 18 the elementary functions, those up to 23
+-- gamma2 and the start sums, and of the rest those whose last digit to the base 256 is up to 25 the table calls, the
+-- others the expansion and the Maclaurin series
 unfoldable pub answer : ℕ → Float → Float → Float
 answer n x y =
     cond (leb n 10) (floatsAnswer n x y)

@@ -60,7 +60,8 @@ seriesAt n place a x =
     let e = constant (n / 16777216) in
     requestAt place (maclaurin.refusal a x c0 c1 e) (maclaurin.answer a x c0 c1 e)
 
--- number n at x and y: the function or call, and the part or place, are its first digits to the base 256; NaN for a number that no function has
+-- number n at x and y: the function or call, and the part or place, are its first digits to the base 256; NaN for a
+-- number that no function has
 unfoldable pub expansionAnswer : ℕ → Float → Float → Float
 expansionAnswer n x y =
     let place = n / 256 % 256 in

@@ -27,7 +27,8 @@ unfoldable pub partOf : Option (Float × Float) → ℕ → Float
 partOf (some p) place = cond (eqb place 65) (p .0) (p .1)
 partOf none place = nan
 
--- after the call on the table l: place 64 is the refusal number, 65 the value, 66 the derivative, and below 64 a place is a slot
+-- after the call on the table l: place 64 is the refusal number, 65 the value, 66 the derivative, and below 64 a place
+-- is a slot
 unfoldable pub placeAfter : Function → ℕ → Float → Float → List Float → Float
 placeAfter fn place v x l =
     cond (ltb place 64) (slot (tableAfter fn v x l) place)

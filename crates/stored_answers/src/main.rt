@@ -30,7 +30,9 @@ fn one_unless(passed: bool) -> u64
 // Every record of s, 32 bytes each. What is left over is no record and counts as a difference.
 fn replay(s: &[u8]) -> Tally
     ensures all { λ r. ⌜ r .records ≡ length (now (s .entry)) / 32 ⌝ }
-    ensures counted { λ r. ⌜ r .differences ≡ differing (now (s .entry)) (length (now (s .entry)) / 32) + leftOver (now (s .entry)) ⌝ }
+    ensures counted { λ r. ⌜
+        r .differences ≡ differing (now (s .entry)) (length (now (s .entry)) / 32) + leftOver (now (s .entry))
+        ⌝ }
 {
     let mut records: u64 = 0;
     let mut differences: u64 = 0;

@@ -9,9 +9,9 @@ pub fn answer_of(n: u64, x: f64, y: f64) -> f64
 {
     match n {
         19 => gamma::gamma2(x),
-        20 => start_sums_large::dvsa(x, y),
+        20 => start_sums_small::dvsa(x, y),
         21 => start_sums_large::dvla(x, y),
-        22 => start_sums_large::vvsa(x, y),
+        22 => start_sums_small::vvsa(x, y),
         23 => start_sums_large::vvla(x, y),
         _ => 0.0 / 0.0,
     }

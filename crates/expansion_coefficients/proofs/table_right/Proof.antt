@@ -1,4 +1,4 @@
--- `coefficients::table_right` meets its contract, by the theorem.
+-- `expansion_coefficients::table_right` meets its contract, by the theorem.
 use Rattle.expansion_coefficients.proofs.Rule.{table-right}
 use Rattle.expansion_coefficients.proofs.table_right.Statement.{statement}
 use Rattle.expansion_coefficients.proofs.table_right.Tie as tie

@@ -1,4 +1,4 @@
--- `elementary_expansion::clamp` meets its contract: each return is the case that the tests pick.
+-- `expansion_elementary::clamp` meets its contract: each return is the case that the tests pick.
 use Rattle.expansion_elementary.specs.Mantissas.{clamped}
 use Rattle.expansion_elementary.proofs.clamp.Statement.{statement}
 use Rattle.expansion_elementary.proofs.clamp.Tie as tie

@@ -1,4 +1,4 @@
--- `elementary_expansion::exponent_of` meets its contract: by that of the logarithm.
+-- `expansion_elementary::exponent_of` meets its contract: by that of the logarithm.
 use Rattle.expansion_elementary.specs.Mantissas.{exponentOf}
 use Rattle.expansion_elementary.proofs.exponent_of.Statement.{statement}
 use Rattle.expansion_elementary.proofs.exponent_of.Tie as tie

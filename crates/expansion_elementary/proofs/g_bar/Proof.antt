@@ -1,4 +1,4 @@
--- `elementary_expansion::g_bar` meets its contract: by those of the gamma ratio and of exp_m1.
+-- `expansion_elementary::g_bar` meets its contract: by those of the gamma ratio and of exp_m1.
 use Rattle.expansion_elementary.specs.Mantissas.{gBar}
 use Rattle.expansion_elementary.proofs.g_bar.Statement.{statement}
 use Rattle.expansion_elementary.proofs.g_bar.Tie as tie

@@ -1,4 +1,4 @@
--- `elementary_expansion::logarithm_of` meets its contract: each return is the case that the test picks.
+-- `expansion_elementary::logarithm_of` meets its contract: each return is the case that the test picks.
 use Rattle.expansion_elementary.specs.Mantissas.{logarithmOf}
 use Rattle.expansion_elementary.proofs.logarithm_of.Statement.{statement}
 use Rattle.expansion_elementary.proofs.logarithm_of.Tie as tie

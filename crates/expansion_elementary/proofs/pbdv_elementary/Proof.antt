@@ -1,4 +1,4 @@
--- `elementary_expansion::pbdv_elementary` meets its contract: the mantissas and the exponent, step by step.
+-- `expansion_elementary::pbdv_elementary` meets its contract: the mantissas and the exponent, step by step.
 use Rattle.expansion_elementary.specs.Mantissas.{mantissasBy}
 use Rattle.expansion_elementary.specs.Mantissas.Open.{mantissas-are}
 use Rattle.expansion_elementary.proofs.pbdv_elementary.Statement.{statement}

@@ -1,4 +1,4 @@
--- `elementary_expansion::weight` meets its contract: by that of the square root.
+-- `expansion_elementary::weight` meets its contract: by that of the square root.
 use Rattle.expansion_elementary.specs.Mantissas.{weight}
 use Rattle.expansion_elementary.proofs.weight.Statement.{statement}
 use Rattle.expansion_elementary.proofs.weight.Tie as tie

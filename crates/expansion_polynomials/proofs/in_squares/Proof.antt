@@ -1,4 +1,4 @@
--- `polynomials::in_squares` meets its contract: each return is the case that the tests pick.
+-- `expansion_polynomials::in_squares` meets its contract: each return is the case that the tests pick.
 use Rattle.expansion_polynomials.specs.Polynomials.Open.{barred-plus, barred-minus, plain}
 use Rattle.expansion_polynomials.proofs.in_squares.Statement.{statement}
 use Rattle.expansion_polynomials.proofs.in_squares.Tie as tie

@@ -1,4 +1,4 @@
--- `polynomials::polevl` meets its contract: the coefficients that are left lead to the polynomial's value.
+-- `expansion_polynomials::polevl` meets its contract: the coefficients that are left lead to the polynomial's value.
 use mathlib.Core.Path.{_≡_}
 use Prim.Native.Nat.{_≤_, _-_}
 use native.Mathlib.Omega.{arith}

@@ -1,4 +1,4 @@
--- `polynomials::u_sum` meets its contract: eleven turns, each with its row of the table.
+-- `expansion_polynomials::u_sum` meets its contract: eleven turns, each with its row of the table.
 use Rattle.expansion_polynomials.specs.Polynomials.{summed}
 use Rattle.expansion_polynomials.specs.Polynomials.Open.{u-sum}
 use Rattle.expansion_coefficients.specs.Table.{start, uRow}

@@ -1,4 +1,4 @@
--- `polynomials::uv_poly` meets its contract: the factor t is there where the test finds s odd.
+-- `expansion_polynomials::uv_poly` meets its contract: the factor t is there where the test finds s odd.
 use Rattle.expansion_polynomials.specs.Polynomials.Open.{odd-row, even-row}
 use Rattle.expansion_polynomials.proofs.uv_poly.Statement.{statement}
 use Rattle.expansion_polynomials.proofs.uv_poly.Tie as tie

@@ -1,4 +1,4 @@
--- `polynomials::uv_sums` meets its contract: the constant is the table of the definition.
+-- `expansion_polynomials::uv_sums` meets its contract: the constant is the table of the definition.
 use mathlib.Core.Path.{refl}
 use Rattle.expansion_coefficients.specs.Table.{coefficients}
 use Rattle.expansion_polynomials.proofs.uv_sums.Statement.{statement}

@@ -1,4 +1,4 @@
--- `polynomials::with_row` meets its contract, by those of the part and of `uv_poly`.
+-- `expansion_polynomials::with_row` meets its contract, by those of the part and of `uv_poly`.
 use native.Mathlib.Omega.{arith}
 use Rattle.expansion_polynomials.proofs.with_row.Statement.{statement}
 use Rattle.expansion_polynomials.proofs.with_row.Tie as tie

@@ -1,4 +1,4 @@
--- `columns::fill_columns` meets its contract: where there is room the two columns are filled, and else both are left.
+-- `ladder_columns::fill_columns` meets its contract: where there is room the two columns are filled, and else both are left.
 use mathlib.Core.Path.{_≡_, sym, _∙_}
 use mathlib.Core.Bool.{true}
 use native.Mathlib.Omega.{arith}

@@ -1,4 +1,4 @@
--- `columns::fill_derivatives_over` meets its contract: the derivatives up to slot k − 1 are filled.
+-- `ladder_columns::fill_derivatives_over` meets its contract: the derivatives up to slot k − 1 are filled.
 use mathlib.Core.Path.{_≡_, refl}
 use Prim.Native.Nat.{_-_, _≤_}
 use native.Mathlib.Omega.{arith}

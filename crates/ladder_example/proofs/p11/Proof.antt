@@ -1,4 +1,4 @@
--- `one_ladder::p11` meets its contract: each call's reply and tables are its contract's, and so the next call's.
+-- `ladder_example::p11` meets its contract: each call's reply and tables are its contract's, and so the next call's.
 use mathlib.Core.Path.{refl}
 use borrow.Author.Needs.{needs}
 use lib.ListN.{replicate}

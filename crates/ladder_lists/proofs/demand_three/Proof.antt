@@ -1,4 +1,4 @@
--- `lists::demand_three` meets its contract: the theorem.
+-- `ladder_lists::demand_three` meets its contract: the theorem.
 use Rattle.ladder_lists.proofs.Lists.{demand3}
 use Rattle.ladder_lists.proofs.demand_three.Statement.{statement}
 use Rattle.ladder_lists.proofs.demand_three.Tie as tie

@@ -1,4 +1,4 @@
--- `lists::examples` meets its contract: the theorem.
+-- `ladder_lists::examples` meets its contract: the theorem.
 use Rattle.ladder_lists.proofs.Values.{examples-hold}
 use Rattle.ladder_lists.proofs.examples.Statement.{statement}
 use Rattle.ladder_lists.proofs.examples.Tie as tie

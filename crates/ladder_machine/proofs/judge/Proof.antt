@@ -1,4 +1,4 @@
--- `machine::judge` meets its contract: the refusal's number, and else the case by the parts of the order.
+-- `ladder_machine::judge` meets its contract: the refusal's number, and else the case by the parts of the order.
 use mathlib.Core.Path.{_≡_, sym, _∙_}
 use borrow.Author.Needs.{needs}
 use lib.Dec.{T}

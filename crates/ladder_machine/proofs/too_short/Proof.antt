@@ -1,4 +1,4 @@
--- `machine::too_short` meets its contract: the values' test first, and then the derivatives'.
+-- `ladder_machine::too_short` meets its contract: the values' test first, and then the derivatives'.
 use native.Mathlib.Omega.{arith}
 use Rattle.ladder_machine.proofs.Tests.{short-values, by-derivatives}
 use Rattle.ladder_machine.proofs.too_short.Statement.{statement}

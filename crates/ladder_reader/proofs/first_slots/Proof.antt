@@ -1,4 +1,4 @@
--- `reader::first_slots` meets its contract: c is tested before the part is taken.
+-- `ladder_reader::first_slots` meets its contract: c is tested before the part is taken.
 use mathlib.Core.Path.{sym}
 use borrow.Author.Needs.{needs}
 use borrow.Author.Tests.{le-leb, lt-leb}

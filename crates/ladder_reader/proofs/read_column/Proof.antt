@@ -1,4 +1,4 @@
--- `reader::read_column` meets its contract: each arm reads the table that it names.
+-- `ladder_reader::read_column` meets its contract: each arm reads the table that it names.
 use Rattle.ladder_reader.specs.Columns.{named}
 use Rattle.ladder_reader.proofs.read_column.Statement.{statement}
 use Rattle.ladder_reader.proofs.read_column.Tie as tie

@@ -1,4 +1,4 @@
--- `small_sums::dvsa` meets its contract: each return is the case that the tests on the way to it pick.
+-- `start_sums_small::dvsa` meets its contract: each return is the case that the tests on the way to it pick.
 use Rattle.start_sums_small.specs.SmallSums.Open.{dvsa-order-zero, dvsa-at-zero, dvsa-series}
 use Rattle.start_sums_small.proofs.dvsa.Statement.{statement}
 use Rattle.start_sums_small.proofs.dvsa.Tie as tie

@@ -1,4 +1,4 @@
--- `small_sums::dvsa_at_zero` meets its contract.
+-- `start_sums_small::dvsa_at_zero` meets its contract.
 use Rattle.start_sums_small.specs.SmallSums.{dvsaAtZero}
 use Rattle.start_sums_small.proofs.dvsa_at_zero.Statement.{statement}
 use Rattle.start_sums_small.proofs.dvsa_at_zero.Tie as tie

@@ -1,4 +1,4 @@
--- `small_sums::is_pole` meets its contract.
+-- `start_sums_small::is_pole` meets its contract.
 use mir.Syntax.{w32}
 use mir.ValLaws.{toZ-ofZ}
 use borrow.Author.Needs.{sfits-of}

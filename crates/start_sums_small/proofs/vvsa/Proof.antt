@@ -1,4 +1,4 @@
--- `small_sums::vvsa` meets its contract: each return is the case that the test on the way to it picks.
+-- `start_sums_small::vvsa` meets its contract: each return is the case that the test on the way to it picks.
 use Rattle.start_sums_small.specs.SmallSums.Open.{vvsa-at-zero, vvsa-series}
 use Rattle.start_sums_small.proofs.vvsa.Statement.{statement}
 use Rattle.start_sums_small.proofs.vvsa.Tie as tie

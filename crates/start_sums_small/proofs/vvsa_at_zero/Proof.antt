@@ -1,4 +1,4 @@
--- `small_sums::vvsa_at_zero` meets its contract.
+-- `start_sums_small::vvsa_at_zero` meets its contract.
 use Rattle.start_sums_small.specs.SmallSums.{vvsaAtZero}
 use Rattle.start_sums_small.proofs.vvsa_at_zero.Statement.{statement}
 use Rattle.start_sums_small.proofs.vvsa_at_zero.Tie as tie

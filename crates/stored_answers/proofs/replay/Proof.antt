@@ -1,4 +1,4 @@
--- `answers::replay` meets its contract: the place stands at 32 times the records passed, and the differences are those of these records.
+-- `stored_answers::replay` meets its contract: the place stands at 32 times the records passed, and the differences are those of these records.
 use native.Mathlib.Omega.{arith}
 use mathlib.Core.Path.{_≡_, refl}
 use Prim.Native.Nat.{_+_, _*_, _-_, _/_, _%_, _≤_}

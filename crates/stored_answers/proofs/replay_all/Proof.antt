@@ -1,4 +1,4 @@
--- `answers::replay_all` ends: the buffers that it may still read get fewer.
+-- `stored_answers::replay_all` ends: the buffers that it may still read get fewer.
 use native.Mathlib.Omega.{arith}
 use Rattle.stored_answers.proofs.replay_all.Statement.{statement}
 use Rattle.stored_answers.proofs.replay_all.Tie as tie

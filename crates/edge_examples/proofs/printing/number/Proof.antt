@@ -1,4 +1,4 @@
--- `edges::printing::number` returns: where the bits are read the number is no NaN.
+-- `edge_examples::printing::number` returns: where the bits are read the number is no NaN.
 use borrow.Author.Needs.{needs}
 use Rattle.signs.proofs.Signs.{no-nan}
 use Rattle.edge_examples.proofs.printing.number.Statement.{statement}

@@ -1,4 +1,4 @@
--- `edges::printing::slots` returns: k stays below the end, and the slots that are left get fewer.
+-- `edge_examples::printing::slots` returns: k stays below the end, and the slots that are left get fewer.
 use Prim.Native.Nat.{_-_}
 use native.Mathlib.Omega.{arith}
 use Rattle.edge_examples.proofs.printing.slots.Statement.{statement}

@@ -1,4 +1,4 @@
--- `edges::table_lines::line` returns: the part that is lent has as many slots as it says.
+-- `edge_examples::table_lines::line` returns: the part that is lent has as many slots as it says.
 use mathlib.Core.Path.{sym}
 use native.Mathlib.Omega.{arith}
 use lib.Seq.{length-take-le}

@@ -1,4 +1,4 @@
--- `machine::cases::case_of` meets its contract: each return has the outcomes of the tests before it.
+-- `ladder_machine::cases::case_of` meets its contract: each return has the outcomes of the tests before it.
 use mathlib.Core.Path.{_≡_, sym, _∙_}
 use mathlib.Core.Bool.{true, false}
 use Rattle.ladder_machine.specs.Machine.{bitsOf, sameRungs}

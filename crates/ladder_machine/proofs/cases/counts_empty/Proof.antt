@@ -1,4 +1,4 @@
--- `machine::cases::counts_empty` meets its contract: each return has the outcomes of the tests before it.
+-- `ladder_machine::cases::counts_empty` meets its contract: each return has the outcomes of the tests before it.
 use mathlib.Core.Path.{_≡_, sym, _∙_}
 use mathlib.Core.Bool.{false}
 use lib.Ieee.{isNan}

@@ -1,4 +1,4 @@
--- `machine::cases::may_climb` meets its contract: a higher n, two rungs held, a forward branch.
+-- `ladder_machine::cases::may_climb` meets its contract: a higher n, two rungs held, a forward branch.
 use mathlib.Core.Path.{_≡_, _∙_}
 use Rattle.floats.specs.Operations.{_⊕_, whole}
 use Rattle.branches.specs.Branches.{runsForward}

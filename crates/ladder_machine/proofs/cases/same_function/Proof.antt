@@ -1,4 +1,4 @@
--- `machine::cases::same_function` meets its contract: one arm for each pair of functions.
+-- `ladder_machine::cases::same_function` meets its contract: one arm for each pair of functions.
 use Rattle.ladder_machine.specs.Machine.Open.{same-D-D, same-D-V, same-V-D, same-V-V}
 use Rattle.ladder_machine.proofs.cases.same_function.Statement.{statement}
 use Rattle.ladder_machine.proofs.cases.same_function.Tie as tie

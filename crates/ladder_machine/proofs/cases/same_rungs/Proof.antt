@@ -1,4 +1,4 @@
--- `machine::cases::same_rungs` meets its contract: each return has the outcomes of the tests before it.
+-- `ladder_machine::cases::same_rungs` meets its contract: each return has the outcomes of the tests before it.
 use mathlib.Core.Path.{_≡_, sym, _∙_}
 use mathlib.Core.Bool.{true, Bool·beq}
 use borrow.Author.Tests.{not-true, not-false}

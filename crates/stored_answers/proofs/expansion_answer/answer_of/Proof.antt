@@ -1,4 +1,4 @@
--- `answers::expansion_answer::answer_of` meets its contract: an arm for each number.
+-- `stored_answers::expansion_answer::answer_of` meets its contract: an arm for each number.
 use Prim.Native.Nat.{_%_}
 use borrow.Author.Tests.{ne-eqb}
 use lib.Ieee.{div, ofBits}

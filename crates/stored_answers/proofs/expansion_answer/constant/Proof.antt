@@ -1,4 +1,4 @@
--- `answers::expansion_answer::constant` meets its contract: the array is the list of the definition.
+-- `stored_answers::expansion_answer::constant` meets its contract: the array is the list of the definition.
 use mathlib.Core.Path.{refl}
 use native.Mathlib.Omega.{arith}
 use lib.Ieee.{div, neg, ofBits}

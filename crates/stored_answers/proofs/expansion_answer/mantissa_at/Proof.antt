@@ -1,4 +1,4 @@
--- `answers::expansion_answer::mantissa_at` meets its contract: one arm for each part.
+-- `stored_answers::expansion_answer::mantissa_at` meets its contract: one arm for each part.
 use borrow.Author.Tests.{eq-eqb, ne-eqb}
 use Rattle.stored_answers.specs.Expansion.{mantissaAt}
 use Rattle.stored_answers.proofs.expansion_answer.mantissa_at.Statement.{statement}

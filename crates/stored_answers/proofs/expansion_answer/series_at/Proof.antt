@@ -1,4 +1,4 @@
--- `answers::expansion_answer::series_at` meets its contract: the constants, the call and the place, in the order of the code.
+-- `stored_answers::expansion_answer::series_at` meets its contract: the constants, the call and the place, in the order of the code.
 use Rattle.stored_answers.specs.Expansion.{requestAt, seriesAt}
 use Rattle.stored_answers.proofs.expansion_answer.series_at.Statement.{statement}
 use Rattle.stored_answers.proofs.expansion_answer.series_at.Tie as tie

@@ -1,4 +1,4 @@
--- `answers::expansion_answer::sum_at` meets its contract: part 0 is the first sum.
+-- `stored_answers::expansion_answer::sum_at` meets its contract: part 0 is the first sum.
 use borrow.Author.Tests.{eq-eqb, ne-eqb}
 use Rattle.stored_answers.specs.Expansion.{sumAt}
 use Rattle.stored_answers.proofs.expansion_answer.sum_at.Statement.{statement}

@@ -1,4 +1,4 @@
--- `answers::floats_answer::answer_of` meets its contract: an arm for each number.
+-- `stored_answers::floats_answer::answer_of` meets its contract: an arm for each number.
 use borrow.Author.Needs.{needs, sfits-of}
 use borrow.Author.Tests.{ne-eqb}
 use lib.Ieee.{div, ofBits}

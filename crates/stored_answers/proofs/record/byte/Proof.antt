@@ -1,4 +1,4 @@
--- `answers::record::byte` meets its contract: a byte is below 256.
+-- `stored_answers::record::byte` meets its contract: a byte is below 256.
 use native.Mathlib.Omega.{arith}
 use mathlib.Core.Path.{refl, sym}
 use lib.ListN.{List·getD-eq-default}

@@ -1,4 +1,4 @@
--- `answers::record::float` meets its contract: a pattern is a NaN's where its lower 63 bits are above an infinity's.
+-- `stored_answers::record::float` meets its contract: a pattern is a NaN's where its lower 63 bits are above an infinity's.
 use mathlib.Core.Path.{_≡_, refl, sym, _∙_}
 use mathlib.Core.Bool.{not}
 use Prim.Native.Nat.{ℕ, _%_, _<_, _≤_}

@@ -1,4 +1,4 @@
--- `answers::record::number` meets its contract.
+-- `stored_answers::record::number` meets its contract.
 use Rattle.stored_answers.proofs.record.number.Statement.{statement}
 use Rattle.stored_answers.proofs.record.number.Tie as tie
 

@@ -1,4 +1,4 @@
--- `answers::answer::answer_of` meets its contract: the test picks the crate.
+-- `stored_answers::answer::answer_of` meets its contract: the test picks the crate.
 use Prim.Native.Nat.{_%_}
 use borrow.Author.Tests.{le-leb, lt-leb}
 use Rattle.stored_answers.specs.Answers.{answer}

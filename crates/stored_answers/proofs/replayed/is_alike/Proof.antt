@@ -1,4 +1,4 @@
--- `answers::replayed::is_alike` meets its contract: the callees' results, in the order of the code.
+-- `stored_answers::replayed::is_alike` meets its contract: the callees' results, in the order of the code.
 use mathlib.Core.Path.{_∙_}
 use Rattle.stored_answers.specs.Answers.{held}
 use Rattle.stored_answers.proofs.replayed.is_alike.Statement.{statement}

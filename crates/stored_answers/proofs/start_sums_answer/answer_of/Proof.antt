@@ -1,4 +1,4 @@
--- `answers::start_sums_answer::answer_of` meets its contract: an arm for each number.
+-- `stored_answers::start_sums_answer::answer_of` meets its contract: an arm for each number.
 use borrow.Author.Tests.{ne-eqb}
 use lib.Ieee.{div, ofBits}
 use Rattle.stored_answers.specs.StartSums.{startSumsAnswer}

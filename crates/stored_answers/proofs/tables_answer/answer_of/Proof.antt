@@ -1,4 +1,4 @@
--- `answers::tables_answer::answer_of` meets its contract: the number's digits are the call, the place and the slots.
+-- `stored_answers::tables_answer::answer_of` meets its contract: the number's digits are the call, the place and the slots.
 use mathlib.Core.Path.{sym}
 use native.Mathlib.Omega.{arith}
 use borrow.Author.Tests.{le-leb, lt-leb, eq-eqb, ne-eqb}

@@ -1,4 +1,4 @@
--- `answers::tables_answer::fill_junk` meets its contract: slots 0 to k − 1 are filled.
+-- `stored_answers::tables_answer::fill_junk` meets its contract: slots 0 to k − 1 are filled.
 use mathlib.Core.Path.{_≡_, refl}
 use Prim.Native.Nat.{_-_, _≤_}
 use native.Mathlib.Nat.{zero-add}

@@ -1,4 +1,4 @@
--- `answers::tables_answer::junk` meets its contract: an arm for each remainder.
+-- `stored_answers::tables_answer::junk` meets its contract: an arm for each remainder.
 use Prim.Native.Nat.{_%_}
 use borrow.Author.Tests.{ne-eqb}
 use lib.Ieee.{div, neg, ofBits}

@@ -1,4 +1,4 @@
--- `answers::tables_answer::part_of` meets its contract: each arm is the definitions' clause.
+-- `stored_answers::tables_answer::part_of` meets its contract: each arm is the definitions' clause.
 use borrow.Author.Tests.{eq-eqb, ne-eqb}
 use lib.Ieee.{div, ofBits, ofInt}
 use Rattle.answer.specs.Answer.{refusalOf, pairOf}

@@ -1,4 +1,4 @@
--- `answers::tables_answer::place_after` meets its contract: the call's own, read at the place.
+-- `stored_answers::tables_answer::place_after` meets its contract: the call's own, read at the place.
 use native.Mathlib.Omega.{arith}
 use borrow.Author.Tests.{lt-ltb, le-ltb}
 use Rattle.stored_answers.specs.Tables.{placeAfter}

@@ -1,4 +1,4 @@
--- `answers::tables_answer::place_after_junk` meets its contract: one call after the other.
+-- `stored_answers::tables_answer::place_after_junk` meets its contract: one call after the other.
 use native.Mathlib.Omega.{arith}
 use Rattle.stored_answers.proofs.tables_answer.place_after_junk.Statement.{statement}
 use Rattle.stored_answers.proofs.tables_answer.place_after_junk.Tie as tie

@@ -1,4 +1,4 @@
--- `answers::tables_answer::slot_at` meets its contract: past the end there is NaN.
+-- `stored_answers::tables_answer::slot_at` meets its contract: past the end there is NaN.
 use mathlib.Core.Path.{refl, sym}
 use native.Mathlib.Omega.{arith}
 use lib.Ieee.{nan, div, ofBits}

@@ -1,7 +1,7 @@
--- `start_sums::large_argument::dvla_expansion` meets its contract.
+-- `start_sums_large::dvla_expansion` meets its contract.
 use Rattle.start_sums_large.specs.StartSums.{dvlaExpansion}
-use Rattle.start_sums_large.proofs.large_argument.dvla_expansion.Statement.{statement}
-use Rattle.start_sums_large.proofs.large_argument.dvla_expansion.Tie as tie
+use Rattle.start_sums_large.proofs.dvla_expansion.Statement.{statement}
+use Rattle.start_sums_large.proofs.dvla_expansion.Tie as tie
 
 pub dvla-expansion-spec : {M : Type 1} → statement M
 unfolding dvlaExpansion

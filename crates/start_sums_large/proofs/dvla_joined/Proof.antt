@@ -1,7 +1,7 @@
--- `start_sums::large_argument::dvla_joined` meets its contract.
+-- `start_sums_large::dvla_joined` meets its contract.
 use Rattle.start_sums_large.specs.StartSums.{dvlaJoined}
-use Rattle.start_sums_large.proofs.large_argument.dvla_joined.Statement.{statement}
-use Rattle.start_sums_large.proofs.large_argument.dvla_joined.Tie as tie
+use Rattle.start_sums_large.proofs.dvla_joined.Statement.{statement}
+use Rattle.start_sums_large.proofs.dvla_joined.Tie as tie
 
 pub dvla-joined-spec : {M : Type 1} → statement M
 unfolding dvlaJoined

@@ -1,7 +1,7 @@
--- `start_sums::large_argument::vvla_expansion` meets its contract.
+-- `start_sums_large::vvla_expansion` meets its contract.
 use Rattle.start_sums_large.specs.StartSums.{vvlaExpansion}
-use Rattle.start_sums_large.proofs.large_argument.vvla_expansion.Statement.{statement}
-use Rattle.start_sums_large.proofs.large_argument.vvla_expansion.Tie as tie
+use Rattle.start_sums_large.proofs.vvla_expansion.Statement.{statement}
+use Rattle.start_sums_large.proofs.vvla_expansion.Tie as tie
 
 pub vvla-expansion-spec : {M : Type 1} → statement M
 unfolding vvlaExpansion

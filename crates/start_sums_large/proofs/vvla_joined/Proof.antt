@@ -1,7 +1,7 @@
--- `start_sums::large_argument::vvla_joined` meets its contract.
+-- `start_sums_large::vvla_joined` meets its contract.
 use Rattle.start_sums_large.specs.StartSums.{vvlaJoined}
-use Rattle.start_sums_large.proofs.large_argument.vvla_joined.Statement.{statement}
-use Rattle.start_sums_large.proofs.large_argument.vvla_joined.Tie as tie
+use Rattle.start_sums_large.proofs.vvla_joined.Statement.{statement}
+use Rattle.start_sums_large.proofs.vvla_joined.Tie as tie
 
 pub vvla-joined-spec : {M : Type 1} → statement M
 unfolding vvlaJoined

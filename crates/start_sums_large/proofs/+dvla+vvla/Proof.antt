@@ -1,22 +1,22 @@
--- The cycle of calls `start_sums::large_argument::{dvla, vvla}`: where x is negative each calls the other at −x, whose falling number is 0.
+-- The cycle of calls `start_sums_large::{dvla, vvla}`: where x is negative each calls the other at −x, whose falling number is 0.
 use Prim.Native.Nat.{ℕ, _<_}
 use borrow.Fn.Kinds.{In}
 use borrow.Fn.PlainCycle.{Measures, is, falls, and}
 use Rattle.start_sums_large.specs.StartSums.{fallingNumber}
 use Rattle.start_sums_large.specs.StartSums.Open.{dvla-above, dvla-below, vvla-above, vvla-below}
 use Rattle.start_sums_large.proofs.Counts as counts
-use Rattle.start_sums_large.proofs.large_argument.dvla.Reads as dvla
-use Rattle.start_sums_large.proofs.large_argument.dvla.Kinds as dvla-kinds
-use Rattle.start_sums_large.proofs.large_argument.+dvla+vvla.Lts-dvla as dvla-lts
-use Rattle.start_sums_large.proofs.large_argument.vvla.Reads as vvla
-use Rattle.start_sums_large.proofs.large_argument.vvla.Kinds as vvla-kinds
-use Rattle.start_sums_large.proofs.large_argument.+dvla+vvla.Lts-vvla as vvla-lts
-use Rattle.start_sums_large.proofs.large_argument.dvla_expansion.Reads as dvla-expansion
-use Rattle.start_sums_large.proofs.large_argument.dvla_joined.Reads as dvla-joined
-use Rattle.start_sums_large.proofs.large_argument.vvla_expansion.Reads as vvla-expansion
-use Rattle.start_sums_large.proofs.large_argument.vvla_joined.Reads as vvla-joined
-use Rattle.start_sums_large.proofs.large_argument.+dvla+vvla.{statement}
-use Rattle.start_sums_large.proofs.large_argument.+dvla+vvla.Tie.{close}
+use Rattle.start_sums_large.proofs.dvla.Reads as dvla
+use Rattle.start_sums_large.proofs.dvla.Kinds as dvla-kinds
+use Rattle.start_sums_large.proofs.+dvla+vvla.Lts-dvla as dvla-lts
+use Rattle.start_sums_large.proofs.vvla.Reads as vvla
+use Rattle.start_sums_large.proofs.vvla.Kinds as vvla-kinds
+use Rattle.start_sums_large.proofs.+dvla+vvla.Lts-vvla as vvla-lts
+use Rattle.start_sums_large.proofs.dvla_expansion.Reads as dvla-expansion
+use Rattle.start_sums_large.proofs.dvla_joined.Reads as dvla-joined
+use Rattle.start_sums_large.proofs.vvla_expansion.Reads as vvla-expansion
+use Rattle.start_sums_large.proofs.vvla_joined.Reads as vvla-joined
+use Rattle.start_sums_large.proofs.+dvla+vvla.{statement}
+use Rattle.start_sums_large.proofs.+dvla+vvla.Tie.{close}
 
 abbrev μ-dvla : Measures 0 dvla-kinds.ps ℕ
 μ-dvla κs a = fallingNumber (a .0)

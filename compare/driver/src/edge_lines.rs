@@ -1,4 +1,4 @@
-//! The lines that the library's program `edges` has to print: the scope paper's examples and the
+//! The lines that the library's program `edge_examples` has to print: the scope paper's examples and the
 //! inputs of its slips, by the Rust over the stand-ins and the ladder machine.
 
 use std::f64::consts::PI;

@@ -1,5 +1,5 @@
-//! The library crates `gamma_ratio`, `mul_exp`, `coefficients`, `expansion` and `maclaurin`: D at
-//! large negative orders, the Maclaurin series, and the functions below them.
+//! The library crates `gamma_ratio`, `mul_exp`, `expansion`, `maclaurin` and those of the same names
+//! with an ending: D at large negative orders, the Maclaurin series, and the functions below them.
 
 mod calls;
 mod drawn;

@@ -1,5 +1,5 @@
-//! The library crates `gamma`, `small_sums` and `start_sums`: the gamma function and the sums from which
-//! the tables start.
+//! The library crates `gamma`, `start_sums_small` and `start_sums_large`: the gamma function and the
+//! sums from which the tables start.
 
 mod own;
 mod terms;

@@ -1,6 +1,7 @@
 -- The slots of a list: one of them, and a stretch of them written, the form of every exit list. Laws:
 -- proofs/Filled.antt.
-use mathlib.Core.List.{List}
+use mathlib.Core.Path.{_≡_, refl}
+use mathlib.Core.List.{List, [], _∷_}
 use Prim.Native.Nat.{ℕ, zero, suc, _+_}
 use lib.ListN.{getD, set}
 use lib.Ieee.{Float, nan}
@@ -13,3 +14,10 @@ slot l k = getD l k nan
 unfoldable pub filled : {A : Type 0} → (ℕ → A) → ℕ → ℕ → ℕ → List A → List A
 filled value from at zero l = l
 filled value from at (suc n) l = set (filled value from at n l) (at + n) (value (from + n))
+
+-- by computing: two slots of four; of three, the last of the list alone; none
+pub examples-hold : (filled (λ k. k) 5 1 2 (0 ∷ 0 ∷ 0 ∷ 0 ∷ []) ≡ 0 ∷ 5 ∷ 6 ∷ 0 ∷ [])
+    × (filled (λ k. k) 5 3 3 (0 ∷ 0 ∷ 0 ∷ 0 ∷ []) ≡ 0 ∷ 0 ∷ 0 ∷ 5 ∷ [])
+    × (filled (λ k. k) 5 0 0 (0 ∷ []) ≡ 0 ∷ [])
+unfolding filled
+examples-hold = (refl, refl, refl)

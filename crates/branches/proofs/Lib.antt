@@ -1,3 +1,3 @@
 pub mod Laws
-pub mod Forward
+pub mod As01
 mod Cases

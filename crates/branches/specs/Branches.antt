@@ -20,7 +20,7 @@ orderIsLow x u = le (absolute x) f10 && le u (f½ ⊗ x ⊗ x)
 pub runsDown : Float → Float → Bool
 runsDown x u = le f0 x && le x f7·5 || orderIsLow x u
 
--- the source's chain of tests; 01's list of the forward branches is in Forward.antt
+-- the source's chain of tests; 01's words are in As01.antt
 pub branchOf : Function → Bool → Float → Float → Branch
 branchOf D false x u = Forward
 branchOf D true x u = cond (le x f0) Forward (cond (le x f2) Downward Scaled)

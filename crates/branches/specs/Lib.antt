@@ -1,3 +1,3 @@
 pub mod Constants
 pub mod Branches
-pub mod Forward
+pub mod As01

@@ -3,6 +3,7 @@
 ghost use mathlib.Core.Path.{_≡_};
 ghost use Rattle.floats.specs.declared.Function.the-variants.{D, «V»};
 ghost use Rattle.branches.specs.Branches.{orderIsLow, runsDown, branchOf, runsForward};
+ghost use Rattle.branches.specs.As01.{BranchesAs01};
 use floats::Function;
 use signs::abs;
 
@@ -90,3 +91,9 @@ pub fn runs_forward(function: Function, below: bool, x: f64, u: f64) -> bool
         Branch::Scaled => false,
     }
 }
+
+// The theorem that the branches are those of 01's words and the source's. The statement is specs/As01.antt, the proof
+// proofs/As01.antt.
+pub fn as_01()
+    ensures { λ _. ⌜ BranchesAs01 ⌝ }
+{}

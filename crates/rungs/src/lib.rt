@@ -2,6 +2,7 @@
 
 mod start;
 
+ghost use Rattle.rungs.specs.Source.{AsSource};
 use floats::Function;
 pub use start::seed;
 pub use start::start_rungs;
@@ -21,3 +22,9 @@ pub struct Adjacent {
     pub low: f64,
     pub high: f64,
 }
+
+// The theorem that the values of a table are those of the source's text. The statement is specs/Source.antt, the proof
+// proofs/Source.antt.
+pub fn as_source()
+    ensures { λ _. ⌜ AsSource ⌝ }
+{}

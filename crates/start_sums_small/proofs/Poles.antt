@@ -59,7 +59,7 @@ fac-turns m =
       | inr a ↦ let b : (m + 1) % 2 ≡ 0 = omega arith in rw (a, b)
     ]
 
--- at a whole order the weight of term m is exactly 0 or 2, and 0 wherever Γ((m − va)/2) may be at a pole
+-- at a whole order the weight of term m is exactly 0 where m − va is even, so that (m − va)/2 is whole, and 2 where it is odd
 pub whole-order-weight : (va : ℤ) (m : ℕ) → natAbs va ≤ 1002 → facOf m ⊗ orderSine (float va) ⊕ f1 ≡ cond (eqb (m % 2) (natAbs va % 2)) f0 f2
 unfolding add mul neg ofBits
 whole-order-weight va m h =
@@ -69,7 +69,8 @@ whole-order-weight va m h =
       | inr a ↦ elim (even-or-odd (natAbs va)) [ inl b ↦ rw (a, b) | inr b ↦ rw (a, b) ]
     ])
 
--- 01's slip, "lets 1e300 into V": the turn of such a term adds 0 · r · Γ, and fac goes on as facOf says
+-- 01's slip, "lets 1e300 into V": the turn of a term with an even m − va adds 0 · r · Γ, and fac goes on as facOf says. The
+-- stop test of that turn has Γ without the weight.
 pub pole-turn : (x r₀ pv₀ : Float) (va : ℤ) (m : ℕ) → natAbs va ≤ 1002 → (m + 1) % 2 ≡ natAbs va % 2 →
     let r = r₀ ⊗ root2 ⊗ x ⊘ whole (m + 1) in
     vvsaTurn x (float va) (orderSine (float va)) (m + 1) (r₀, facOf m, pv₀) .1 ≡

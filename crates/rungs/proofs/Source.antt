@@ -138,20 +138,20 @@ start-values s x f va = record {
 -- ---- start rungs
 
 module _ (x f : Float) where
-  -- the three cases of `startRungs`, by the outcomes of its tests
-  neither : (fn : Function) (s : Bool) → startsGaussian fn s f ≡ false → ownRungTwo fn s f ≡ false
+  -- by start values at two orders, where both tests of `startRungs` fail
+  summed : (fn : Function) (s : Bool) → startsGaussian fn s f ≡ false → ownRungTwo fn s f ≡ false
       → startRungs (sequence fn s x f) ≡ startedAt (sequence fn s x f) f (nextOrder s f)
-  neither fn s a b = rw (startRungs-is (sequence fn s x f), a, b)
+  summed fn s a b = rw (startRungs-is (sequence fn s x f), a, b)
 
   start-rungs-of : StartRungs x f
   start-rungs-of = record {
     d-gaussian = λ e. rw (startRungs-is (sequence D false x f), startsGaussian-D-above f, e, gaussian-is x, ← f¼-is);
-    d-up = λ e. neither D false (startsGaussian-D-above f ∙ e) (ownRungTwo-D false f) ∙ rw (nextOrder-above f);
-    d-down = neither D true (startsGaussian-D-below f) (ownRungTwo-D true f) ∙ rw (nextOrder-below f);
+    d-up = λ e. summed D false (startsGaussian-D-above f ∙ e) (ownRungTwo-D false f) ∙ rw (nextOrder-above f);
+    d-down = summed D true (startsGaussian-D-below f) (ownRungTwo-D true f) ∙ rw (nextOrder-below f);
     v-own =
         λ e. rw (startRungs-is (sequence «V» true x f), startsGaussian-V true f, ownRungTwo-V-below f, e, growth-is x, ← f¼-is, ← rootTwoOverPi-is);
-    v-down = λ e. neither «V» true (startsGaussian-V true f) (ownRungTwo-V-below f ∙ e) ∙ rw (nextOrder-below f);
-    v-up = neither «V» false (startsGaussian-V false f) (ownRungTwo-V-above f) ∙ rw (nextOrder-above f);
+    v-down = λ e. summed «V» true (startsGaussian-V true f) (ownRungTwo-V-below f ∙ e) ∙ rw (nextOrder-below f);
+    v-up = summed «V» false (startsGaussian-V false f) (ownRungTwo-V-above f) ∙ rw (nextOrder-above f);
   }
 
 -- ---- the columns

@@ -3,7 +3,7 @@
 ghost use mathlib.Core.Path.{_≡_};
 ghost use Rattle.floats.specs.declared.Function.the-variants.{D, «V»};
 ghost use Rattle.ladder_machine.specs.Machine.{asks};
-ghost use Rattle.gozhnerim.specs.Ladders.{requestedInC};
+ghost use Rattle.gozhnerim_lists.specs.Requests.{requestedInC};
 use floats::Function;
 use gozhnerim_structs::GozhnerimLadder;
 use gozhnerim_structs::GozhnerimReply;

@@ -5,11 +5,3 @@
 mod answers;
 mod column_reader;
 mod ladders;
-
-ghost use Rattle.gozhnerim.specs.Lists.{Demand3InC};
-
-// The theorem about every list of ladder requests over this interface. The statement is specs/Lists.antt, the proof
-// proofs/Demand3InC.antt.
-pub fn demand_three_in_c()
-    ensures { λ _. ⌜ Demand3InC ⌝ }
-{}

@@ -2,7 +2,7 @@
 use mathlib.Core.Path.{ap}
 use native.Mathlib.Omega.{arith}
 use Rattle.ladder.specs.Ladder.{Outcome}
-use Rattle.gozhnerim.specs.Ladders.{requestedInC}
+use Rattle.gozhnerim_lists.specs.Requests.{requestedInC}
 use Rattle.gozhnerim.proofs.ladders.request.Statement.{statement}
 use Rattle.gozhnerim.proofs.ladders.request.Tie as tie
 

@@ -10,9 +10,9 @@ use Rattle.ladder_lists.specs.Demand3.{Call, Numbers, Long, ListRight}
 use Rattle.ladder_lists.proofs.Lists.{demand3}
 use Rattle.gozhnerim_structs.specs.declared.GozhnerimLadder.{GozhnerimLadder}
 use Rattle.gozhnerim_structs.specs.Ladders.{ladderIn}
-use Rattle.gozhnerim.specs.Lists.{callsInC, lastInC, begunWith, ListRightInC, Demand3InC}
-use Rattle.gozhnerim.proofs.Lists.{allInC, begun-is, begun-empty, all-due, turns-in-c, last-in-c, lent-in-c}
-use Rattle.gozhnerim.proofs.AnyState.{state-right-in-c}
+use Rattle.gozhnerim_lists.specs.Lists.{callsInC, lastInC, begunWith, ListRightInC, Demand3InC}
+use Rattle.gozhnerim_lists.proofs.Lists.{allInC, begun-is, begun-empty, all-due, turns-in-c, last-in-c, lent-in-c}
+use Rattle.gozhnerim_lists.proofs.AnyState.{state-right-in-c}
 
 module _ (table : Request → List Float) (long : Long table) (held : GozhnerimLadder) (nothing : begunWith held ≡ empty) (cs : List Call) (numbers : Numbers cs) where
   right : ListRight table (ladderIn held) cs

@@ -23,8 +23,8 @@ use Rattle.gozhnerim_structs.specs.declared.GozhnerimLadder.{GozhnerimLadder}
 use Rattle.gozhnerim_structs.specs.Answers.{pairOrNan}
 use Rattle.gozhnerim_structs.specs.Ladders.{functionOf, ladderBy, ladderIn, numberOf, ladderOut, handedBack, countOf, replyOf}
 use Rattle.gozhnerim_structs.proofs.Laws.{in-handed-back}
-use Rattle.gozhnerim.specs.Ladders.{OutcomeInC, requestedInC}
-use Rattle.gozhnerim.specs.Lists.{calledInC, callsInC, lentInC, lastInC, functionIn, begunBy, begunWith, numberIn, replyDue, dueInC, dueAllInC}
+use Rattle.gozhnerim_lists.specs.Requests.{OutcomeInC, requestedInC}
+use Rattle.gozhnerim_lists.specs.Lists.{calledInC, callsInC, lentInC, lastInC, functionIn, begunBy, begunWith, numberIn, replyDue, dueInC, dueAllInC}
 
 -- ---- the state
 

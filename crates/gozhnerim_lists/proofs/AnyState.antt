@@ -24,9 +24,9 @@ use Rattle.ladder_lists.proofs.Lists.{demand3}
 use Rattle.gozhnerim_structs.specs.declared.GozhnerimLadder.{GozhnerimLadder}
 use Rattle.gozhnerim_structs.specs.Answers.{pairOrNan}
 use Rattle.gozhnerim_structs.specs.Ladders.{functionOf, ladderBy, ladderIn, ladderOut, handedBack, countOf, replyOf}
-use Rattle.gozhnerim.specs.Ladders.{requestedInC}
-use Rattle.gozhnerim.specs.Lists.{stateInC, answeredInC, begunWith, saysInC, ClimbedInC, StateRightInC}
-use Rattle.gozhnerim.proofs.Lists.{nothing-held, same-number, begun-is, handed-on}
+use Rattle.gozhnerim_lists.specs.Requests.{requestedInC}
+use Rattle.gozhnerim_lists.specs.Lists.{stateInC, answeredInC, begunWith, saysInC, ClimbedInC, StateRightInC}
+use Rattle.gozhnerim_lists.proofs.Lists.{nothing-held, same-number, begun-is, handed-on}
 
 same-written : (g g' : ℕ → Float) (a n : ℕ) (l l' : List Float) → ((k : ℕ) → g k ≡ g' k) → JustWritten g a n l l' → JustWritten g' a n l l'
 same-written g g' a n l l' e j = record { same-length = j .same-length; slots = λ k h b. j .slots k h b ∙ e k; others = j .others }

@@ -24,7 +24,7 @@ use Rattle.ladder_lists.specs.Demand3.{valuesDue, derivativesDue, Lent, HandedO
 use Rattle.ladder_lists.specs.Demand3.{lastAccepted, lastValues, lastDerivatives, Rungs}
 use Rattle.gozhnerim_structs.specs.declared.GozhnerimLadder.{GozhnerimLadder}
 use Rattle.gozhnerim_structs.specs.declared.GozhnerimReply.{GozhnerimReply}
-use Rattle.gozhnerim.specs.Ladders.{OutcomeInC, requestedInC}
+use Rattle.gozhnerim_lists.specs.Requests.{OutcomeInC, requestedInC}
 
 -- ---- a list of calls: each is given the state that the last one handed back, and any tables
 

@@ -1,7 +1,0 @@
--- `gozhnerim::demand_three_in_c` meets its contract: the theorem.
-use Rattle.gozhnerim.proofs.Demand3InC.{demand3-in-c}
-use Rattle.gozhnerim.proofs.demand_three_in_c.Statement.{statement}
-use Rattle.gozhnerim.proofs.demand_three_in_c.Tie as tie
-
-pub demand-three-in-c-spec : {M : Type 1} → statement M
-demand-three-in-c-spec = tie.close (tie.spec (λ c. demand3-in-c))

@@ -27,6 +27,14 @@ extern "C" {
 #endif
 
 /*
+ * The version of this header, 0.2.0: 10000 times the first number, 100 times the second, and the third.
+ * gozhnerim_version() gives that of the library linked; a header and a library of different versions do
+ * not go together.
+ */
+#define GOZHNERIM_VERSION 200
+uint32_t gozhnerim_version(void);
+
+/*
  * Refusals. The tests are made by rising number. A refused call writes to no table.
  */
 enum {
@@ -46,6 +54,20 @@ enum { GOZHNERIM_VALUES = 1, GOZHNERIM_DERIVATIVES = 2 };
 #define GOZHNERIM_TABLE_SLOTS 2004
 #define GOZHNERIM_VALUE_SLOTS 1001
 #define GOZHNERIM_DERIVATIVE_SLOTS 1000
+
+/*
+ * What a request for order v needs, whatever x is. Refusals 1 and 2; all other numbers are 0 then, and f
+ * is NaN.
+ */
+typedef struct {
+    uint32_t refusal;     /* 0: the order is taken; else the number of the refusal */
+    uint32_t below_zero;  /* 1 where v < 0, else 0 */
+    uint32_t n;           /* the top rung: a ladder needs n + 1 values and n derivatives */
+    uint32_t num;         /* the whole part of the size of v, plus 3: a table needs 2 * num slots */
+    double f;             /* rung k has order f + k (v >= 0) or f - k (v < 0) */
+} gozhnerim_order;
+
+gozhnerim_order gozhnerim_split(double v);
 
 typedef struct {
     uint32_t refusal;   /* 0: answered; else the number of the refusal */
@@ -114,6 +136,17 @@ gozhnerim_reply gozhnerim_ladder_d(gozhnerim_ladder held, double v, double x, do
 /* The same for V. */
 gozhnerim_reply gozhnerim_ladder_v(gozhnerim_ladder held, double v, double x, double *values,
                                    size_t values_len, double *derivatives, size_t derivatives_len);
+
+/* What a ladder did, by its reply. */
+enum {
+    GOZHNERIM_REFUSED = 0,    /* a refusal: the ladder is as it was */
+    GOZHNERIM_REPEAT = 1,     /* nothing was written */
+    GOZHNERIM_CLIMB = 2,      /* the new rungs were written */
+    GOZHNERIM_START_OVER = 3  /* all rungs were written */
+};
+
+/* Which of them a reply of gozhnerim_ladder_d or _v is. */
+uint32_t gozhnerim_case(gozhnerim_reply reply);
 
 /*
  * The column reader: how many slots of the column named by `which` are lent back, from its first on: c,

@@ -80,6 +80,42 @@ static void off_the_path(void)
     CHECK(refused(gozhnerim_maclaurin(-0.5, 0.5, INFINITY, 0.0, 0.0), GOZHNERIM_INFINITE));
 }
 
+static int splits(double v, uint32_t below_zero, uint32_t n, uint32_t num, double f)
+{
+    gozhnerim_order o = gozhnerim_split(v);
+    return o.refusal == 0 && o.below_zero == below_zero && o.n == n && o.num == num && same(o.f, f);
+}
+
+static int split_refused(double v, uint32_t number)
+{
+    gozhnerim_order o = gozhnerim_split(v);
+    return o.refusal == number && o.below_zero == 0 && o.n == 0 && o.num == 0 && isnan(o.f);
+}
+
+/* What an order needs, at its limits; with one slot less the table call gives 3. */
+static void split(void)
+{
+    static const double orders[] = {0.0, -0.0, 0.25, 7.5, -7.5, 255.9, 999.5, -999.5};
+    double t[GOZHNERIM_TABLE_SLOTS];
+
+    CHECK(splits(0.0, 0, 1, 3, 0.0) && splits(-0.0, 0, 1, 3, 0.0));
+    CHECK(splits(2.5, 0, 3, 5, 0.5) && splits(-2.5, 1, 3, 5, -0.5));
+    /* v + 1 and v - 1 are rounded: to 2, to -1 and to 1000 */
+    CHECK(splits(0.9999999999999999, 0, 2, 3, 0.0));
+    CHECK(splits(-1e-20, 1, 1, 3, 0.0));
+    CHECK(splits(999.0, 0, 1000, 1002, 0.0));
+    CHECK(splits(nextafter(1000.0, 0.0), 0, 1000, 1002, 1.0 - 1.1368683772161603e-13));
+    CHECK(split_refused(1000.0, GOZHNERIM_ORDER_SIZE) && split_refused(-1000.0, GOZHNERIM_ORDER_SIZE));
+    CHECK(split_refused(-INFINITY, GOZHNERIM_ORDER_SIZE) && split_refused(NAN, GOZHNERIM_NAN));
+
+    for (size_t i = 0; i < sizeof orders / sizeof orders[0]; i++) {
+        double v = orders[i];
+        size_t slots = 2 * (size_t)gozhnerim_split(v).num;
+        CHECK(gozhnerim_d_table(v, 1.0, t, slots).refusal == GOZHNERIM_ANSWERED);
+        CHECK(gozhnerim_d_table(v, 1.0, t, slots - 1).refusal == GOZHNERIM_TABLE_SHORT);
+    }
+}
+
 static void column(void)
 {
     double values[4], derivatives[3];
@@ -99,9 +135,11 @@ static void column(void)
 
 int main(void)
 {
+    CHECK(gozhnerim_version() == GOZHNERIM_VERSION);
     table_examples();
     table_refusals();
     off_the_path();
+    split();
     column();
     ladder_tests();
     printf("C interface: %d failures\n", failures);

@@ -86,6 +86,15 @@ static gozhnerim_answer table_call(const request *q, double *table)
                                                                       GOZHNERIM_TABLE_SLOTS);
 }
 
+/* The case by the count written by hand. */
+static uint32_t case_due(const request *q)
+{
+    if (q->refusal != 0) {
+        return GOZHNERIM_REFUSED;
+    }
+    return q->written == 0 ? GOZHNERIM_REPEAT : q->written == q->n + 1 ? GOZHNERIM_START_OVER : GOZHNERIM_CLIMB;
+}
+
 /*
  * Makes a request twice: on the tables that the last one left, where then all rungs are the table call's,
  * and on tables full of marks, where just as many as the count says are. Gives the next state.
@@ -97,6 +106,7 @@ static gozhnerim_ladder check_request(gozhnerim_ladder held, const request *q, t
     double table[GOZHNERIM_TABLE_SLOTS];
     gozhnerim_reply r = ask(held, q, lent), again = ask(held, q, &fresh);
 
+    CHECK(gozhnerim_case(r) == case_due(q) && gozhnerim_case(again) == case_due(q));
     if (q->refusal != 0) {
         CHECK(refused_reply(r, held, q->refusal) && refused_reply(again, held, q->refusal));
         CHECK(same_tables(lent, &found) && same_tables(&fresh, &marks));

@@ -19,6 +19,21 @@ pub struct Pair {
     pub derivative: f64,
 }
 
+impl From<Pair> for (f64, f64) {
+    /// Value and derivative.
+    ///
+    /// ```
+    /// use gozhnerim::d_table;
+    ///
+    /// let (value, derivative) = d_table(1.0, 0.0, &mut [0.0; 8])?.into();
+    /// assert_eq!((value, derivative), (0.0, 1.0));
+    /// # Ok::<(), gozhnerim::Refusal>(())
+    /// ```
+    fn from(pair: Pair) -> Self {
+        (pair.value, pair.derivative)
+    }
+}
+
 fn pair(answer: c::Answer) -> Result<Pair, Refusal> {
     match Refusal::from_number(answer.refusal) {
         Some(refusal) => Err(refusal),

@@ -50,6 +50,17 @@ pub struct RawState {
     pub value_top: f64,
 }
 
+/// `gozhnerim_order`.
+#[repr(C)]
+#[derive(Clone, Copy)]
+pub struct Order {
+    pub refusal: u32,
+    pub below_zero: u32,
+    pub n: u32,
+    pub num: u32,
+    pub f: f64,
+}
+
 /// `gozhnerim_answer`.
 #[repr(C)]
 #[derive(Clone, Copy)]
@@ -70,11 +81,9 @@ pub struct Reply {
     pub derivative: f64,
 }
 
-const _: () = assert!(size_of::<RawState>() == 56);
-const _: () = assert!(size_of::<Answer>() == 24);
-const _: () = assert!(size_of::<Reply>() == 80);
-
 unsafe extern "C" {
+    safe fn gozhnerim_version() -> u32;
+    safe fn gozhnerim_split(v: f64) -> Order;
     fn gozhnerim_d_table(v: f64, x: f64, table: *mut f64, len: usize) -> Answer;
     fn gozhnerim_v_table(v: f64, x: f64, table: *mut f64, len: usize) -> Answer;
     safe fn gozhnerim_d_expansion(v: f64, x: f64) -> Answer;
@@ -97,6 +106,7 @@ unsafe extern "C" {
         derivatives: *mut f64,
         derivatives_len: usize,
     ) -> Reply;
+    safe fn gozhnerim_case(reply: Reply) -> u32;
     fn gozhnerim_column(
         values: *const f64,
         values_len: usize,
@@ -105,6 +115,21 @@ unsafe extern "C" {
         which: u32,
         c: usize,
     ) -> usize;
+}
+
+/// The version of the library.
+pub fn version() -> u32 {
+    gozhnerim_version()
+}
+
+/// What a request for an order needs.
+pub fn split(v: f64) -> Order {
+    gozhnerim_split(v)
+}
+
+/// Which case a reply is.
+pub fn case(reply: Reply) -> u32 {
+    gozhnerim_case(reply)
 }
 
 /// The table call of a function.
@@ -152,4 +177,65 @@ pub fn column(values: &[f64], derivatives: &[f64], which: u32, c: usize) -> usiz
     let (values, derivatives) = (values.as_ptr(), derivatives.as_ptr());
     // SAFETY: pointers and lengths are those of two slices, which are only read.
     unsafe { gozhnerim_column(values, values_len, derivatives, derivatives_len, which, c) }
+}
+
+#[cfg(test)]
+mod tests {
+    use super::*;
+    use std::mem::offset_of;
+    use std::path::{Path, PathBuf};
+    use std::process::Command;
+
+    /// A line for each struct: its name and size, and its fields' names and offsets.
+    macro_rules! layout {
+        ($name:literal, $type:ty, $($field:ident $c:literal),+) => {
+            [format!("{} {}", $name, size_of::<$type>())]
+                .into_iter()
+                .chain([$(format!("{} {}", $c, offset_of!($type, $field))),+])
+                .collect::<Vec<_>>()
+                .join(" ")
+        };
+    }
+
+    /// The structs as they are declared here.
+    fn declared() -> Vec<String> {
+        vec![
+            layout!(
+                "gozhnerim_order", Order,
+                refusal "refusal", below_zero "below_zero", n "n", num "num", f "f"
+            ),
+            layout!(
+                "gozhnerim_answer", Answer,
+                refusal "refusal", value "value", derivative "derivative"
+            ),
+            layout!(
+                "gozhnerim_ladder", RawState,
+                function "function", below_zero "below_zero", n "n", reserved "reserved", x "x", f "f",
+                value_below "value_below", value_top "value_top"
+            ),
+            layout!(
+                "gozhnerim_reply", Reply,
+                state "ladder", refusal "refusal", written "written", value "value",
+                derivative "derivative"
+            ),
+        ]
+    }
+
+    #[test]
+    fn structs_are_laid_out_as_the_header_has_them() {
+        let package = Path::new(env!("CARGO_MANIFEST_DIR"));
+        let program = PathBuf::from(env!("OUT_DIR")).join("layout");
+        let compiled = Command::new("cc")
+            .arg("-I")
+            .arg(package.join("../include"))
+            .arg(package.join("tests/layout.c"))
+            .arg("-o")
+            .arg(&program)
+            .status()
+            .expect("the test needs a C compiler, cc");
+        assert!(compiled.success());
+        let printed = Command::new(&program).output().unwrap().stdout;
+        let printed = String::from_utf8(printed).unwrap();
+        assert_eq!(printed.lines().collect::<Vec<_>>(), declared());
+    }
 }

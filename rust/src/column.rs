@@ -31,6 +31,7 @@ pub enum Column {
 /// assert_eq!(column(&values, &derivatives, Column::Derivatives, 2), [4.0, 5.0]);
 /// assert!(column(&values, &derivatives, Column::Derivatives, 3).is_empty());
 /// ```
+#[must_use]
 pub fn column<'a>(values: &'a [f64], derivatives: &'a [f64], which: Column, c: usize) -> &'a [f64] {
     let (named, number) = match which {
         Column::Values => (values, 1),

@@ -32,6 +32,7 @@ impl Function {
     ///
     /// assert_eq!((Function::D.number(), Function::V.number()), (1, 2));
     /// ```
+    #[must_use]
     pub fn number(self) -> u32 {
         match self {
             Function::D => 1,
@@ -47,6 +48,7 @@ impl Function {
     /// assert_eq!(Function::from_number(2), Some(Function::V));
     /// assert_eq!(Function::from_number(0), None);
     /// ```
+    #[must_use]
     pub fn from_number(number: u32) -> Option<Self> {
         match number {
             1 => Some(Function::D),

@@ -34,6 +34,7 @@ impl Ladder {
     /// let ladder = gozhnerim::Ladder::new();
     /// assert!(ladder.values().is_empty() && ladder.state().is_empty());
     /// ```
+    #[must_use]
     pub fn new() -> Self {
         Ladder::default()
     }
@@ -100,6 +101,7 @@ impl Ladder {
     /// assert_eq!(ladder.values(), [1.0, 0.0, -1.0, -0.0]);
     /// # Ok::<(), gozhnerim::Refusal>(())
     /// ```
+    #[must_use]
     pub fn values(&self) -> &[f64] {
         let slots = self.state.held().map_or(0, |held| held.n + 1);
         &self.values[..slots]
@@ -114,6 +116,7 @@ impl Ladder {
     /// assert_eq!(ladder.derivatives()[2], reply.derivative);
     /// # Ok::<(), gozhnerim::Refusal>(())
     /// ```
+    #[must_use]
     pub fn derivatives(&self) -> &[f64] {
         let slots = self.state.held().map_or(0, |held| held.n);
         &self.derivatives[..slots]
@@ -130,6 +133,7 @@ impl Ladder {
     /// assert!(ladder.column(Column::Values, 5).is_empty());
     /// # Ok::<(), gozhnerim::Refusal>(())
     /// ```
+    #[must_use]
     pub fn column(&self, which: Column, c: usize) -> &[f64] {
         column(self.values(), self.derivatives(), which, c)
     }
@@ -142,6 +146,7 @@ impl Ladder {
     /// assert_eq!(ladder.state().held().unwrap().n, 3);
     /// # Ok::<(), gozhnerim::Refusal>(())
     /// ```
+    #[must_use]
     pub fn state(&self) -> State {
         self.state
     }

@@ -64,3 +64,14 @@ pub use order::{rung_order, rungs_needed, slots_needed};
 pub use refusal::Refusal;
 pub use reply::{Case, Reply};
 pub use state::{Held, State};
+
+/// The version of the library linked, as `GOZHNERIM_VERSION` of `include/gozhnerim.h` has it: 10000
+/// times the first number, 100 times the second, and the third. build.rs holds it to the package's.
+///
+/// ```
+/// assert!(gozhnerim::library_version() >= 200);
+/// ```
+#[must_use]
+pub fn library_version() -> u32 {
+    c::version()
+}

@@ -1,23 +1,13 @@
 //! How an order is split, and what follows from it: lengths of tables and the orders of rungs.
 
-use crate::Refusal;
+use crate::{Refusal, c};
 
-/// From this size on an order is refused.
-const ORDER_LIMIT: f64 = 1000.0;
-
-/// The shifted order u: v + 1, or v − 1 below 0, rounded. −0.0 is not below 0.
-fn shifted(v: f64) -> f64 {
-    if v < 0.0 { v - 1.0 } else { v + 1.0 }
-}
-
-/// Refusals 1 and 2 for an order.
-fn check(v: f64) -> Result<(), Refusal> {
-    if v.is_nan() {
-        Err(Refusal::NotANumber)
-    } else if v.abs() >= ORDER_LIMIT {
-        Err(Refusal::OrderTooLarge)
-    } else {
-        Ok(())
+/// The split of an order that is not refused.
+fn split(v: f64) -> Result<c::Order, Refusal> {
+    let order = c::split(v);
+    match Refusal::from_number(order.refusal) {
+        Some(refusal) => Err(refusal),
+        None => Ok(order),
     }
 }
 
@@ -39,8 +29,7 @@ fn check(v: f64) -> Result<(), Refusal> {
 /// assert_eq!(slots_needed(1000.0), Err(Refusal::OrderTooLarge));
 /// ```
 pub fn slots_needed(v: f64) -> Result<usize, Refusal> {
-    check(v)?;
-    Ok(2 * (v.abs().trunc() as usize + 3))
+    Ok(2 * split(v)?.num as usize)
 }
 
 /// n, the top rung of a request for order v: the whole part of the size of v + 1 (v ≥ 0) or v − 1
@@ -61,8 +50,7 @@ pub fn slots_needed(v: f64) -> Result<usize, Refusal> {
 /// assert_eq!(rungs_needed(1.0_f64.next_down()), Ok(2));
 /// ```
 pub fn rungs_needed(v: f64) -> Result<usize, Refusal> {
-    check(v)?;
-    Ok(shifted(v).abs().trunc() as usize)
+    Ok(split(v)?.n as usize)
 }
 
 /// The order of rung k in a request for order v, rounded: f + k (v ≥ 0) or f − k (v < 0), f being
@@ -81,8 +69,9 @@ pub fn rungs_needed(v: f64) -> Result<usize, Refusal> {
 /// assert_eq!(rung_order(-2.5, 2), Ok(-2.5));
 /// ```
 pub fn rung_order(v: f64, k: usize) -> Result<f64, Refusal> {
-    check(v)?;
-    let u = shifted(v);
-    let f = u - u.trunc();
-    Ok(if v < 0.0 { f - k as f64 } else { f + k as f64 })
+    let order = split(v)?;
+    Ok(match order.below_zero {
+        0 => order.f + k as f64,
+        _ => order.f - k as f64,
+    })
 }

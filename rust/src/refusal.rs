@@ -2,6 +2,7 @@
 
 use std::error::Error;
 use std::fmt;
+use std::num::NonZeroU32;
 
 /// Why a call gave no answer. A refused call writes to no table and leaves a ladder as it was.
 ///
@@ -30,8 +31,8 @@ pub enum Refusal {
     OrderOutsideExpansion,
     /// 5: expansion: x is infinite; series: an input is infinite.
     Infinite,
-    /// A number that this package has no name for: the library linked is newer than it.
-    Unknown(u32),
+    /// A number that this package has no name for. The library that goes with this package gives none.
+    Unknown(NonZeroU32),
 }
 
 impl Refusal {
@@ -41,8 +42,9 @@ impl Refusal {
     /// use gozhnerim::{Refusal, d_expansion};
     ///
     /// assert_eq!(d_expansion(-19.5, 3.0).unwrap_err().number(), 4);
-    /// assert_eq!(Refusal::Unknown(40).number(), 40);
+    /// assert_eq!(Refusal::from_number(40).unwrap().number(), 40);
     /// ```
+    #[must_use]
     pub fn number(self) -> u32 {
         match self {
             Refusal::NotANumber => 1,
@@ -50,7 +52,7 @@ impl Refusal {
             Refusal::TableTooShort => 3,
             Refusal::OrderOutsideExpansion => 4,
             Refusal::Infinite => 5,
-            Refusal::Unknown(number) => number,
+            Refusal::Unknown(number) => number.get(),
         }
     }
 
@@ -60,18 +62,18 @@ impl Refusal {
     /// use gozhnerim::Refusal;
     ///
     /// assert_eq!(Refusal::from_number(2), Some(Refusal::OrderTooLarge));
-    /// assert_eq!(Refusal::from_number(40), Some(Refusal::Unknown(40)));
+    /// assert!(matches!(Refusal::from_number(40), Some(Refusal::Unknown(_))));
     /// assert_eq!(Refusal::from_number(0), None);
     /// ```
+    #[must_use]
     pub fn from_number(number: u32) -> Option<Self> {
         match number {
-            0 => None,
             1 => Some(Refusal::NotANumber),
             2 => Some(Refusal::OrderTooLarge),
             3 => Some(Refusal::TableTooShort),
             4 => Some(Refusal::OrderOutsideExpansion),
             5 => Some(Refusal::Infinite),
-            _ => Some(Refusal::Unknown(number)),
+            _ => NonZeroU32::new(number).map(Refusal::Unknown),
         }
     }
 
@@ -122,7 +124,7 @@ mod tests {
     fn numbers_read_back() {
         for number in 1..=5 {
             let refusal = Refusal::from_number(number).unwrap();
-            assert_ne!(refusal, Refusal::Unknown(number));
+            assert!(!matches!(refusal, Refusal::Unknown(_)));
             assert_eq!(refusal.number(), number);
         }
     }
@@ -141,7 +143,7 @@ mod tests {
     fn unknown_numbers_have_words_too() {
         for number in [6, 17, 40, u32::MAX] {
             let refusal = Refusal::from_number(number).unwrap();
-            assert_eq!(refusal, Refusal::Unknown(number));
+            assert!(matches!(refusal, Refusal::Unknown(_)));
             assert_eq!(refusal.number(), number);
             assert!(refusal.to_string().contains(&number.to_string()));
         }

@@ -41,6 +41,7 @@ pub struct Reply {
 /// assert_eq!(cases, [Case::StartOver, Case::Climb, Case::Repeat, Case::StartOver]);
 /// # Ok::<(), gozhnerim::Refusal>(())
 /// ```
+#[non_exhaustive]
 #[derive(Clone, Copy, Debug, PartialEq, Eq, Hash)]
 pub enum Case {
     /// The request held: function, side, x, fraction and n are the held ones. Nothing is written.
@@ -52,13 +53,12 @@ pub enum Case {
 }
 
 impl Case {
-    /// The case of a request with top rung n that wrote so many rungs. A start-over writes n + 1; a
-    /// climb starts at a held n of 2 or more and writes at least 1 and at most n − 2.
-    fn of(written: u32, n: u32) -> Self {
-        match written {
-            0 => Case::Repeat,
-            written if written > n => Case::StartOver,
-            _ => Case::Climb,
+    /// The case of a reply that is no refusal: the library tells it by its number, 1 to 3.
+    fn of(reply: c::Reply) -> Self {
+        match c::case(reply) {
+            1 => Case::Repeat,
+            2 => Case::Climb,
+            _ => Case::StartOver,
         }
     }
 }
@@ -83,7 +83,7 @@ impl TryFrom<c::Reply> for Reply {
                 value: reply.value,
                 derivative: reply.derivative,
                 written: reply.written as usize,
-                case: Case::of(reply.written, reply.state.n),
+                case: Case::of(reply),
             }),
         }
     }

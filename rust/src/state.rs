@@ -124,6 +124,7 @@ impl State {
     /// raw.f = 1.0;
     /// assert!(State::from_raw(raw).is_empty());
     /// ```
+    #[must_use]
     pub fn is_empty(&self) -> bool {
         self.held().is_none()
     }
@@ -133,6 +134,7 @@ impl State {
     /// ```
     /// assert_eq!(gozhnerim::State::EMPTY.held(), None);
     /// ```
+    #[must_use]
     pub fn held(&self) -> Option<Held> {
         let raw = &self.raw;
         let function = Function::from_number(raw.function)?;
@@ -159,6 +161,7 @@ impl State {
     /// assert_eq!(State::from_raw(raw).held(), ladder.state().held());
     /// # Ok::<(), gozhnerim::Refusal>(())
     /// ```
+    #[must_use]
     pub fn from_raw(raw: RawState) -> Self {
         State { raw }
     }
@@ -170,6 +173,7 @@ impl State {
     ///
     /// assert_eq!(State::EMPTY.to_raw().function, 0);
     /// ```
+    #[must_use]
     pub fn to_raw(self) -> RawState {
         self.raw
     }

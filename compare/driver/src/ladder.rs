@@ -25,6 +25,7 @@ mod library {
     use super::{Reply, State};
 
     unsafe extern "C" {
+        pub safe fn gozhnerim_case(reply: Reply) -> u32;
         pub fn gozhnerim_ladder_d(
             held: State,
             v: f64,
@@ -90,6 +91,11 @@ pub fn ask(held: State, point: &Point, [values, derivatives]: [&mut Lent; 2]) ->
             derivatives_len,
         )
     }
+}
+
+/// The case that the library tells of a reply.
+pub fn case_told(reply: &Reply) -> u32 {
+    library::gozhnerim_case(*reply)
 }
 
 /// Compares the library's ladder over `count` requests in drawn lists from an empty ladder.

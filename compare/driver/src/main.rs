@@ -87,10 +87,11 @@ fn compare(count: usize, seed: u64) -> bool {
         }
         right &= tally.finish(name);
     }
-    let mut tally = Tally::of_calls(tables::CALLS.len());
+    let mut tally = Tally::of_calls(tables::CALLS.len() + 1);
     for call in &tables::CALLS {
         call.compare(&mut tally, count, seed);
     }
+    tables::needs::compare(&mut tally, count, seed);
     right &= tally.finish("tables");
     let mut tally = Tally::of_calls(ladder::CALLS);
     ladder::compare(&mut tally, count, seed);

@@ -5,3 +5,4 @@
 mod answers;
 mod column_reader;
 mod ladders;
+mod told;

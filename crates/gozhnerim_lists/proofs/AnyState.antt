@@ -42,7 +42,7 @@ module _ (table : Request → List Float) (long : Long table) (held : GozhnerimL
   unfolding heldIn
   same-says = ap (λ (m : Machine). verdict m (fed (ask q l d))) (begun-is held)
 
-  means : (w : Verdict) → saysInC held (ask q l d) ≡ w → Means (heldIn s) q (length l) (length d) w
+  pub means : (w : Verdict) → saysInC held (ask q l d) ≡ w → Means (heldIn s) q (length l) (length d) w
   unfolding heldIn
   means w e = subst (Means (heldIn s) q (length l) (length d)) (sym same-says ∙ e) (verdict-means (heldIn s) q (length l) (length d))
 

@@ -1,4 +1,5 @@
-// A ladder's request in C, which the contracts of `gozhnerim` cite (specs/Requests.antt), and demand 3 over lists of them.
+// A ladder's request in C, which the contracts of `gozhnerim` cite (specs/Requests.antt), and demand 3 over lists of
+// them.
 
 ghost use Rattle.gozhnerim_lists.specs.Lists.{Demand3InC};
 

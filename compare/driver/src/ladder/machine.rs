@@ -86,6 +86,16 @@ impl Case {
         }
     }
 
+    /// The number of the case in the C interface.
+    pub fn number_in_c(self) -> u32 {
+        match self {
+            Case::Refused(_) => 0,
+            Case::Repeat => 1,
+            Case::Climb(_) => 2,
+            Case::StartOver => 3,
+        }
+    }
+
     /// The written count of a request with this n.
     pub fn written(self, n: usize) -> usize {
         match self {

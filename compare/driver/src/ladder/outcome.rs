@@ -3,7 +3,7 @@
 use super::lists::Request;
 use super::machine::{Case, Machine};
 use super::rungs::{Branch, Rungs};
-use super::{Point, Reply, State};
+use super::{Point, Reply, State, case_told};
 use crate::tables::{Lent, Split, number_difference, slot_difference, whole_difference};
 
 /// What a ladder holds by the scope paper.
@@ -105,6 +105,7 @@ impl Expected {
             .or_else(|| whole_difference("written", reply.written, rust.written))
             .or_else(|| number_difference(pair))
             .or_else(|| self.state_difference(&reply.state))
+            .or_else(|| whole_difference("case", case_told(reply), self.case.number_in_c()))
             .or_else(|| [(0, "value"), (1, "derivative")].into_iter().find_map(slot))
     }
 

@@ -8,8 +8,8 @@ use std::fs::File;
 use std::os::unix::ffi::OsStrExt;
 use std::process::Stdio;
 
-use common::alike;
-use gozhnerim::{Ladder, d_expansion, maclaurin};
+use common::{BELOW_ONE, TABLE_SLOTS, alike, marked, table, written};
+use gozhnerim::{Function, Ladder, d_expansion, maclaurin, rung_order, slots_needed};
 use run::{Ran, command, run, run_text};
 
 /// The numbers on a line; `-` is no number.
@@ -67,12 +67,63 @@ fn a_table_has_a_line_for_each_rung() {
         assert_eq!(read.get(3), ladder.derivatives().get(k));
     }
     assert!(lines[3].ends_with(" -"));
-    let bits = run_text("table V -1 0 --bits");
-    assert_eq!(
-        bits.lines()[1],
-        "1 -1.0 0.7978845608028654 0.0 0x3fe9884533d43651 0x0000000000000000"
-    );
-    assert_eq!(bits.lines()[2].split(' ').count(), 6);
+}
+
+#[test]
+fn with_bits_a_table_has_a_line_for_each_slot() {
+    let ran = run_text("table V -1 0 --bits");
+    assert!(answered(&ran));
+    let expected = [
+        "0 0x0000000000000000 0.0 value 0 0.0",
+        "1 0x3fe9884533d43651 0.7978845608028654 value 1 -1.0",
+        "2 0x0000000000000000 0.0 value 2 -2.0",
+        "4 0x3fe9884533d43651 0.7978845608028654 derivative 0 0.0",
+        "5 0x0000000000000000 0.0 derivative 1 -1.0",
+    ];
+    assert_eq!(ran.lines(), expected);
+}
+
+/// The lines of `table --bits` are those slots of a table of marks that the call writes.
+fn slots_are_those_written(function: Function, v: f64, x: f64) {
+    let request = format!("table {function} {v:?} {x:?} --bits");
+    let ran = run_text(&request);
+    assert!(answered(&ran), "{request}");
+    let mut slots = marked(TABLE_SLOTS);
+    table(function, v, x, &mut slots).unwrap();
+    let lines: Vec<Vec<&str>> = ran.lines().iter().map(|l| l.split(' ').collect()).collect();
+    let listed = lines.iter().map(|cells| cells[0].parse().unwrap());
+    let listed: Vec<usize> = listed.collect();
+    assert_eq!(listed, written(&slots), "{request}");
+    let num = slots_needed(v).unwrap() / 2;
+    for (slot, cells) in listed.into_iter().zip(lines) {
+        let bits = u64::from_str_radix(&cells[1][2..], 16).unwrap();
+        let printed = [f64::from_bits(bits), cells[2].parse().unwrap()];
+        assert!(
+            printed.iter().all(|&number| alike(number, slots[slot])),
+            "{request}: {cells:?}"
+        );
+        let (column, rung) = match slot.checked_sub(num) {
+            Some(rung) => ("derivative", rung),
+            None => ("value", slot),
+        };
+        let order = format!("{:?}", rung_order(v, rung).unwrap());
+        assert_eq!(cells[3..], [column, &rung.to_string(), &order], "{request}");
+    }
+}
+
+/// At -1.1e-16 and nearer to 0 the order less 1 rounds to -1, and V has a value 2.
+#[test]
+fn the_slots_listed_are_the_slots_written() {
+    let sizes = [
+        0.0, 5e-324, 1e-20, 1.1e-16, 2.3e-16, 0.5, BELOW_ONE, 1.0, 2.5, 7.0, 999.5,
+    ];
+    for function in [Function::D, Function::V] {
+        for v in sizes.into_iter().flat_map(|size| [size, -size]) {
+            for x in [0.5, -3.0, 12.0] {
+                slots_are_those_written(function, v, x);
+            }
+        }
+    }
 }
 
 #[test]
@@ -95,6 +146,69 @@ fn expansion_and_series() {
     let ran = run_text("maclaurin -0.5 0.5 1 0 -2.5");
     let pair = maclaurin(-0.5, 0.5, 1.0, 0.0, -2.5).unwrap();
     assert_eq!(numbers(ran.out.trim_end()), [pair.value, pair.derivative]);
+}
+
+#[test]
+fn sixteen_digits_without_0x_are_no_number() {
+    let wrong = [
+        "D 2 4024000000000000",
+        "V 3fe0000000000000 1",
+        "table D 1234567890123456 1 --bits",
+        "expansion C039000000000000 3",
+        "maclaurin 1 1 1 1 0000000000000000",
+    ];
+    for words in wrong {
+        let ran = run_text(words);
+        assert_eq!((ran.status, ran.out.as_str()), (Some(2), ""), "{words}");
+        let advice = "; write 0x in front of them for bits, or a decimal point, ";
+        assert!(ran.err.contains(advice), "{words}: {}", ran.err);
+    }
+    let ten = run_text("D 2 10");
+    assert!(answered(&ten));
+    assert_eq!(run_text("D 2 0x4024000000000000").out, ten.out);
+    assert_eq!(run_text("D 2 0X4024000000000000").out, ten.out);
+    let reply = Ladder::new().d(2.0, -4024e12).unwrap();
+    let expected = format!("{:?} {:?}\n", reply.value, reply.derivative);
+    assert_eq!(run_text("D 2 -4024000000000000").out, expected);
+    assert_eq!(run_text("D 2 -4024000000000000.0").out, expected);
+}
+
+#[test]
+fn minus_signs_and_other_dashes() {
+    for (words, plain) in [("D −0.5 1e−3", "D -0.5 1e-3"), ("D 2 −inf", "D 2 -inf")] {
+        let plain = run_text(plain);
+        assert!(answered(&plain));
+        assert_eq!(run_text(words).out, plain.out);
+    }
+    for words in ["D –0.5 1", "D —0.5 1", "D ‐0.5 1", "D 1 1e–3", "V 2 —inf"] {
+        let ran = run_text(words);
+        assert_eq!((ran.status, ran.out.as_str()), (Some(2), ""), "{words}");
+        assert!(ran.err.contains("; write a minus sign - "), "{}", ran.err);
+    }
+}
+
+#[test]
+fn two_dashes_end_the_options() {
+    let plain = run_text("D 2 1 --bits");
+    assert!(answered(&plain));
+    for words in ["--bits -- D 2 1", "--bits D -- 2 1", "D 2 1 --bits --"] {
+        assert_eq!(run_text(words).out, plain.out, "{words}");
+    }
+    let words = [
+        ("-- --help", "\"--help\" is none of "),
+        ("-- -- D 2 1", "\"--\" is none of "),
+        ("D -- --bits 1", "the order is not a number: \"--bits\""),
+        (
+            "-- D 2 1 --bits",
+            "D takes 2 numbers (order, argument), and 3 are given",
+        ),
+    ];
+    for (words, message) in words {
+        let ran = run_text(words);
+        assert_eq!((ran.status, ran.out.as_str()), (Some(2), ""), "{words}");
+        let start = format!("gozhnerim: {message}");
+        assert!(ran.err.starts_with(&start), "{words}: {}", ran.err);
+    }
 }
 
 #[test]
@@ -141,6 +255,7 @@ fn wrong_usage_is_answered_in_words() {
         "serve now",
         "--bit D 1 2",
         "-x",
+        "--",
         "2.5 1.0",
         "D --1 2",
     ];
@@ -177,6 +292,20 @@ fn help_and_version() {
         let ran = run_text(words);
         assert!(answered(&ran) && ran.out.contains("usage:"), "{words}");
         assert!(ran.out.lines().all(|line| line.len() <= 82));
+        let named = [
+            "docs/SUPPORT.md",
+            "--bits ",
+            "\n  -- ",
+            "table --bits:",
+            "tower1: release",
+            "not-held",
+            "byte order mark",
+            "4024000000000000.0",
+            "U+2212",
+        ];
+        for part in named {
+            assert!(ran.out.contains(part), "{words}: no {part}");
+        }
     }
     assert_eq!(
         run_text("--version").out,

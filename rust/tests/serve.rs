@@ -12,7 +12,7 @@ use std::thread;
 use std::time::Duration;
 
 use common::Generator;
-use gozhnerim::Ladder;
+use gozhnerim::{Ladder, d_expansion, maclaurin};
 use run::{Ran, command, serve};
 
 #[test]
@@ -60,12 +60,123 @@ fn bad_lines_are_named_and_the_run_goes_on() {
     assert!(replies[1].starts_with("error line 4: the order is not a number: \"two\""));
     assert!(replies[2].starts_with("refusal 2: "));
     assert!(replies[3].starts_with("error line 7: "));
-    assert!(replies[4].starts_with("error line 8: the function is D or V, not \"U\""));
+    assert!(replies[4].starts_with("error line 8: \"U\" is none of D, V, "));
     assert_eq!(replies[5], "3.0 0.0 2 climb");
-    let messages: Vec<&str> = ran.err.lines().collect();
-    assert_eq!(messages.len(), 3);
-    for (message, number) in messages.iter().zip([4, 7, 8]) {
-        assert!(message.starts_with(&format!("gozhnerim: line {number}: ")));
+    assert_eq!(ran.err, "");
+}
+
+#[test]
+fn numbers_are_read_as_on_the_command_line() {
+    let lines = "D 2 4024000000000000\na: V 3fe0000000000000 1\n\
+                 maclaurin 1 1 1 1 1234567890123456\nexpansion c039000000000000 3\n\
+                 D –0.5 1\nD 2 0x0000000000000000\nD 4 −0\n";
+    let ran = serve(&[], lines);
+    let replies = ran.lines();
+    assert_eq!((ran.status, replies.len()), (Some(1), 7));
+    for (reply, number) in replies[..4].iter().zip(1..) {
+        assert!(
+            reply.starts_with(&format!("error line {number}: the ")),
+            "{reply}"
+        );
+        assert!(reply.contains("; write 0x in front of them for bits, or a decimal point, "));
+    }
+    assert!(replies[4].contains("; write a minus sign - "));
+    assert_eq!(
+        replies[5..],
+        ["-1.0 0.0 4 start-over", "3.0 0.0 6 start-over"]
+    );
+}
+
+#[test]
+fn a_byte_order_mark_and_line_breaks_of_two_bytes() {
+    for first in [
+        "D 2 0",
+        "D 2 0\r",
+        "\r\nD 2 0",
+        "# remark\nD 2 0",
+        "\nD 2 0",
+        " \tD 2 0",
+    ] {
+        let ran = serve(&[], format!("\u{feff}{first}\n  D 4 0  \r\nrelease\r\n"));
+        assert_eq!((ran.status, ran.err.as_str()), (Some(0), ""), "{first:?}");
+        let expected = ["-1.0 0.0 4 start-over", "3.0 0.0 2 climb", "released"];
+        assert_eq!(ran.lines(), expected, "{first:?}");
+    }
+    let ran = serve(&[], "\u{feff}a: D 2 0\na: D 4 0\n\u{feff}D 2 0\n");
+    assert_eq!(ran.lines()[1], "3.0 0.0 2 climb");
+    assert!(ran.lines()[2].starts_with("error line 3: "));
+    assert_eq!(serve(&[], "\u{feff}").out, "");
+}
+
+#[test]
+fn ladders_are_released() {
+    let lines = "a: D 2 0\na: D 4 0\na: release\na: release\na: D 4 0\nrelease\nD 2 0\n\
+                 release\nD 2 0\nb :release\na: D 5 0\n";
+    let ran = serve(&[], lines);
+    assert_eq!((ran.status, ran.err.as_str()), (Some(0), ""));
+    let expected = [
+        "-1.0 0.0 4 start-over",
+        "3.0 0.0 2 climb",
+        "released",
+        "not-held",
+        "3.0 0.0 6 start-over",
+        "not-held",
+        "-1.0 0.0 4 start-over",
+        "released",
+        "-1.0 0.0 4 start-over",
+        "not-held",
+    ];
+    let replies = ran.lines();
+    assert_eq!(replies[..10], expected);
+    assert!(replies[10].ends_with(" 1 climb"));
+    let ran = serve(&[], "D 2 0\nrelease all\nD 4 0\n");
+    let start = "error line 2: release takes no \"all\"; write the ladder's name in front";
+    assert!(ran.lines()[1].starts_with(start));
+    assert_eq!(ran.lines()[2], "3.0 0.0 2 climb");
+}
+
+#[test]
+fn expansion_and_series_use_no_ladder() {
+    let calls = "expansion -25 3\nmaclaurin -0.5 0.5 1 0 -2.5\n";
+    let pairs = [
+        d_expansion(-25.0, 3.0).unwrap(),
+        maclaurin(-0.5, 0.5, 1.0, 0.0, -2.5).unwrap(),
+    ];
+    let ran = serve(&[], format!("D 2 0\n{calls}D 4 0\n"));
+    assert_eq!((ran.status, ran.err.as_str()), (Some(0), ""));
+    let decimals = pairs.map(|pair| format!("{:?} {:?}", pair.value, pair.derivative));
+    assert_eq!(ran.lines()[1..3], decimals);
+    assert_eq!(ran.lines()[3], "3.0 0.0 2 climb");
+    let with_bits = pairs.map(|pair| {
+        let bits = [pair.value, pair.derivative].map(f64::to_bits);
+        let (value, derivative) = (pair.value, pair.derivative);
+        format!(
+            "{value:?} {derivative:?} {:#018x} {:#018x}",
+            bits[0], bits[1]
+        )
+    });
+    assert_eq!(serve(&["--bits"], calls).lines(), with_bits);
+}
+
+#[test]
+fn expansion_and_series_refused_or_wrong() {
+    let ran = serve(
+        &[],
+        "a: expansion -25 3\nb: maclaurin 1 1 1 1 1\nexpansion -19 1\n\
+         maclaurin 1 1 1 1 inf\nexpansion -25\nmaclaurin\na: release\n",
+    );
+    let starts = [
+        "error line 1: expansion uses no ladder; leave out the name \"a\"",
+        "error line 2: maclaurin uses no ladder; leave out the name \"b\"",
+        "refusal 4: ",
+        "refusal 5: ",
+        "error line 5: expansion takes 2 numbers (order, argument), and 1 is given",
+        "error line 6: maclaurin takes 5 numbers (A, X, C0, C1, E), and 0 are given",
+        "not-held",
+    ];
+    assert_eq!((ran.status, ran.lines().len()), (Some(1), starts.len()));
+    for (reply, start) in ran.lines().iter().zip(starts) {
+        assert!(reply.starts_with(start), "{reply}");
     }
 }
 
@@ -88,12 +199,9 @@ fn lines_of_any_bytes() {
         .count();
     assert_eq!((replies.len(), errors), (14, 11));
     assert_eq!(replies[10], "3.0 0.0 2 climb");
-    assert_eq!(
-        replies[11],
-        "error line 13: the line is longer than 4096 bytes"
-    );
+    assert!(replies[11].starts_with("error line 13: the line is longer than 4096 bytes; "));
     assert_eq!(replies[13], "3.0 0.0 0 repeat");
-    assert!(!ran.out.contains('\u{1b}') && !ran.err.contains('\u{1b}'));
+    assert!(!ran.out.contains('\u{1b}') && ran.err.is_empty());
 }
 
 #[test]
@@ -149,11 +257,33 @@ fn too_many_ladders() {
     for name in 0..1001 {
         writeln!(input, "t{name}: D 2 0").unwrap();
     }
-    input.push_str("t7: D 4 0\n");
+    input.push_str("t7: D 4 0\nD 2 0\nt8: release\nD 2 0\nt7: D 6 0\n");
     let ran = serve(&[], input);
-    assert_eq!((ran.status, ran.lines().len()), (Some(1), 1002));
-    assert!(ran.lines()[1000].starts_with("error line 1001: 1000 ladders are held already"));
+    assert_eq!((ran.status, ran.lines().len()), (Some(1), 1006));
+    let full = "ladders are held already; release one by a line `NAME: release`, ";
+    for number in [1001, 1003] {
+        let start = format!("error line {number}: 1000 {full}");
+        assert!(ran.lines()[number - 1].starts_with(&start));
+    }
     assert_eq!(ran.lines()[1001], "3.0 0.0 2 climb");
+    let released = ["released", "-1.0 0.0 4 start-over", "-15.0 0.0 2 climb"];
+    assert_eq!(ran.lines()[1003..], released);
+}
+
+#[test]
+fn a_ladder_that_was_only_refused_is_not_held() {
+    let mut input = String::new();
+    for name in 0..1001 {
+        writeln!(input, "t{name}: D 1000 0").unwrap();
+    }
+    input.push_str("t7: release\nt8: D 2 0\nt8: D NaN 0\nt8: D 4 0\n");
+    let ran = serve(&[], input);
+    let replies = ran.lines();
+    let (refused, rest) = replies.split_at(1001);
+    assert!(refused.iter().all(|reply| reply.starts_with("refusal 2: ")));
+    assert_eq!(rest[..2], ["not-held", "-1.0 0.0 4 start-over"]);
+    assert!(rest[2].starts_with("refusal 1: "));
+    assert_eq!(rest[3..], ["3.0 0.0 2 climb"]);
 }
 
 /// A program that sends a line and waits for its reply before it sends the next.

@@ -1,4 +1,4 @@
-//! What the words of the command line ask for.
+//! What the words of the command line, and of a line of `serve`, ask for.
 
 use std::ffi::OsString;
 
@@ -33,14 +33,26 @@ pub enum Call {
     Maclaurin([f64; 5]),
 }
 
+/// What a line of `serve` asks for.
+#[derive(Debug, PartialEq)]
+pub enum Asked {
+    OnLadder(Request),
+    /// That a ladder is forgotten.
+    Release,
+    /// A call that uses no ladder.
+    Call(Call),
+}
+
 /// Reads the words, or says what is wrong with them.
 pub fn read(words: impl Iterator<Item = OsString>) -> Result<Task, String> {
-    let (mut bits, mut rest) = (false, Vec::new());
+    let (mut bits, mut options_end, mut rest) = (false, false, Vec::new());
     for word in words {
         let Ok(word) = word.into_string() else {
             return Err("an argument is not UTF-8 text".to_string());
         };
         match word.as_str() {
+            _ if options_end => rest.push(word),
+            "--" => options_end = true,
             "--help" | "-h" => return Ok(Task::Print(HELP)),
             "--version" => return Ok(Task::Print(VERSION)),
             "--bits" => bits = true,
@@ -60,16 +72,13 @@ fn task(words: &[&str], bits: bool) -> Result<Task, String> {
     };
     match first {
         "table" => Ok(Task::Table(request("table", rest)?, bits)),
-        "expansion" => {
-            let [v, x] = read_numbers("expansion", ["order", "argument"], rest)?;
-            Ok(Task::Pair(Call::Expansion { v, x }, bits))
-        }
-        "maclaurin" => {
-            let inputs = read_numbers("maclaurin", ["A", "X", "C0", "C1", "E"], rest)?;
-            Ok(Task::Pair(Call::Maclaurin(inputs), bits))
-        }
+        "expansion" => Ok(Task::Pair(expansion(rest)?, bits)),
+        "maclaurin" => Ok(Task::Pair(series(rest)?, bits)),
         "serve" if rest.is_empty() => Ok(Task::Serve(bits)),
-        "serve" => Err(format!("serve takes no {}", quoted(rest[0]))),
+        "serve" => Err(format!(
+            "serve takes no {}; it reads its requests from standard input, one a line",
+            quoted(rest[0])
+        )),
         "help" => Ok(Task::Print(HELP)),
         _ if function(first).is_some() => Ok(Task::Pair(Call::Table(request(first, words)?), bits)),
         other => Err(format!(
@@ -89,6 +98,16 @@ fn request(name: &str, words: &[&str]) -> Result<Request, String> {
     };
     let [v, x] = read_numbers(first, ["order", "argument"], rest)?;
     Ok(Request { function, v, x })
+}
+
+fn expansion(words: &[&str]) -> Result<Call, String> {
+    let [v, x] = read_numbers("expansion", ["order", "argument"], words)?;
+    Ok(Call::Expansion { v, x })
+}
+
+fn series(words: &[&str]) -> Result<Call, String> {
+    let inputs = read_numbers("maclaurin", ["A", "X", "C0", "C1", "E"], words)?;
+    Ok(Call::Maclaurin(inputs))
 }
 
 /// As many numbers as there are names, for the command `command`.
@@ -115,12 +134,22 @@ fn read_numbers<const N: usize>(
 }
 
 /// Reads a line of `serve` without the ladder's name.
-pub fn line(words: &[&str]) -> Result<Request, String> {
-    if words.len() == 3 {
-        return request("a line", words);
+pub fn line(words: &[&str]) -> Result<Asked, String> {
+    let Some((&first, rest)) = words.split_first() else {
+        return Err("nothing is asked for; a request is like `D 2.5 1.0`".to_string());
+    };
+    match first {
+        "expansion" => expansion(rest).map(Asked::Call),
+        "maclaurin" => series(rest).map(Asked::Call),
+        "release" if rest.is_empty() => Ok(Asked::Release),
+        "release" => Err(format!(
+            "release takes no {}; write the ladder's name in front, as in `NAME: release`",
+            quoted(rest[0])
+        )),
+        _ if function(first).is_some() => request(first, words).map(Asked::OnLadder),
+        other => Err(format!(
+            "{} is none of D, V, expansion, maclaurin and release",
+            quoted(other)
+        )),
     }
-    Err(format!(
-        "a request is three words: D or V, an order and an argument; words here: {}",
-        words.len()
-    ))
 }

@@ -18,23 +18,43 @@ usage:
   gozhnerim --help, --version
 
 options:
-  --bits   the bits of each number too, after the other columns
+  --bits   the bits of value and derivative too, after the other columns;
+           for table, its slots in place of the rungs
+  --       ends the options: what comes after it is never an option
 
 A number is a decimal such as 2.5 or -1e-3, inf or NaN, or its bits as 0x and 16
-hexadecimal digits: 0x4004000000000000 is 2.5. Numbers are printed as the
-shortest decimals that read back exactly.
+hexadecimal digits: 0x4004000000000000 is 2.5. 16 digits alone are an error, as
+they could be either: a decimal of 16 digits is written with a decimal point, as
+4024000000000000.0. The minus sign of documents, U+2212, is read as -. Numbers
+are printed as the shortest decimals that read back exactly.
 
-serve: a line is `D 2.5 1.0`, or `tower1: D 2.5 1.0` for the ladder of that name;
-up to 1000 ladders are held. For each line there is one line of output:
-  VALUE DERIVATIVE WRITTEN CASE   so many rungs were written; the case is repeat,
-                                  climb or start-over
-  refusal NUMBER: ..              what happened and what to do
-  error line NUMBER: ..           the line is no request; standard error says so
-                                  too where the output is no terminal
-Blank lines and lines that begin with # are skipped.
+table --bits: a line for each slot that the table call writes, by rising slot:
+  SLOT BITS NUMBER COLUMN RUNG ORDER   the column is value or derivative
+Value k is in slot k and derivative k in slot num + k, where num is the whole
+part of the size of the order asked for, plus 3. V at a tiny negative order has
+a value 2 above its top rung. The call leaves all other slots as they were.
+
+serve: the lines of input, and the one line on standard output that each has:
+  D 2.5 1.0                  VALUE DERIVATIVE WRITTEN CASE: so many rungs were
+  V -3 0.5                     written; the case is repeat, climb or start-over
+  expansion -25 3            VALUE DERIVATIVE
+  maclaurin 0.5 0.25 1 0 0   VALUE DERIVATIVE
+  release                    released, the ladder is forgotten; or not-held,
+                               there was none
+D, V and release take a ladder's name in front, as `tower1: D 2.5 1.0` and
+`tower1: release`, and without it go to the one ladder that has no name. Up to
+1000 ladders are held. expansion and maclaurin use no ladder and take no name.
+In place of such a line there can be one of these on standard output:
+  refusal NUMBER: ..         what happened and what to do; the ladder is as before
+  error line NUMBER: ..      what is wrong with that line of the input
+Lines end in LF or CR LF. Blank lines and lines that begin with # are skipped,
+and so is a byte order mark before the first line.
 
 exit status: 0 all answered; 1 a request was refused, a line was bad, or input
 or output failed; 2 wrong usage
+
+docs/SUPPORT.md in the repository: refusals, how to reproduce an answer, where
+digits are lost
 ";
 
 pub const VERSION: &str = concat!("gozhnerim ", env!("CARGO_PKG_VERSION"), "\n");

@@ -5,6 +5,9 @@ use std::io::{self, BufRead, ErrorKind};
 /// A longer line is cut.
 pub const LONGEST: usize = 4096;
 
+/// What some programs write before the first line of a UTF-8 text.
+const BYTE_ORDER_MARK: &[u8] = "\u{feff}".as_bytes();
+
 /// A line without its line break.
 #[derive(Debug, PartialEq)]
 pub struct Line {
@@ -12,6 +15,15 @@ pub struct Line {
     pub bytes: Vec<u8>,
     /// Whether it is longer than that.
     pub cut: bool,
+}
+
+impl Line {
+    /// Takes away a byte order mark at the beginning.
+    pub fn skip_mark(&mut self) {
+        if self.bytes.starts_with(BYTE_ORDER_MARK) {
+            self.bytes.drain(..BYTE_ORDER_MARK.len());
+        }
+    }
 }
 
 /// The next line, or nothing at the end. The memory that it takes is bounded.

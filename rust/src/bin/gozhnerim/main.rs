@@ -9,6 +9,7 @@ mod lines;
 mod numbers;
 mod output;
 mod serve;
+mod table;
 mod words;
 
 use std::env;
@@ -53,8 +54,8 @@ fn run(task: Task) -> io::Result<bool> {
             out.flush()?;
             Ok(true)
         }
-        Task::Pair(call, bits) => calls::pair(call, bits),
-        Task::Table(request, bits) => calls::table(request, bits),
+        Task::Pair(call, bits) => calls::print(call, bits),
+        Task::Table(request, bits) => table::print(request, bits),
         Task::Serve(bits) => serve::standard(bits),
     }
 }

@@ -10,7 +10,7 @@ pub type Column = (&'static str, usize);
 /// The longest decimal has 24 characters, as -2.2250738585072014e-308.
 pub const DECIMAL: usize = 24;
 /// 0x and 16 digits, and no shorter than the titles.
-const BITS: usize = 18;
+pub const BITS: usize = 18;
 /// The last columns where bits are wanted.
 const BITS_COLUMNS: [Column; 2] = [("value bits", BITS), ("derivative bits", BITS)];
 
@@ -46,27 +46,32 @@ impl<W: Write> Rows<W> {
         };
         if terminal {
             let titles = rows.columns.iter().map(|(title, _)| title.to_string());
-            rows.cells(titles.collect())?;
+            rows.row(titles.collect())?;
         }
         Ok(rows)
     }
 
-    /// One row. The numbers' bits are added where they are wanted; a number that is missing is `-`.
-    pub fn row(&mut self, mut cells: Vec<String>, numbers: [Option<f64>; 2]) -> io::Result<()> {
+    /// A pair, the cells after it, and where they are wanted the bits of the pair. An empty cell
+    /// is a column that this row has not.
+    pub fn pair<const N: usize>(&mut self, pair: [f64; 2], more: [String; N]) -> io::Result<()> {
+        let mut cells = pair.map(numbers::decimal).to_vec();
+        cells.extend(more);
         if self.bits {
-            cells.extend(numbers.map(|number| number.map_or("-".to_string(), numbers::bits)));
+            cells.extend(pair.map(numbers::bits));
         }
-        self.cells(cells)
+        self.row(cells)
     }
 
-    fn cells(&mut self, mut cells: Vec<String>) -> io::Result<()> {
-        if self.terminal {
-            let last = cells.len().saturating_sub(1);
-            for (cell, (_, width)) in cells[..last].iter_mut().zip(&self.columns) {
-                *cell = format!("{cell:<width$} ");
-            }
+    /// One row. A pipe gets no empty cells, and a terminal gets blanks in their place.
+    pub fn row(&mut self, mut cells: Vec<String>) -> io::Result<()> {
+        if !self.terminal {
+            cells.retain(|cell| !cell.is_empty());
+            return self.text(&cells.join(" "));
         }
-        writeln!(self.out, "{}", cells.join(" "))
+        let padded = cells.iter().zip(&self.columns);
+        let padded = padded.map(|(cell, (_, width))| format!("{cell:<width$}"));
+        let line = padded.collect::<Vec<_>>().join("  ");
+        self.text(line.trim_end())
     }
 
     /// A line of text.
@@ -87,36 +92,36 @@ impl<W: Write> Rows<W> {
 mod tests {
     use super::*;
 
-    const COLUMNS: [Column; 2] = [("value", 8), ("case", 10)];
+    const COLUMNS: [Column; 3] = [("value", 8), ("derivative", 10), ("case", 6)];
 
+    /// A pair with a case, one without, and a line of text.
     fn written(terminal: bool, bits: bool) -> String {
         let mut out = Vec::new();
         let mut rows = Rows::new(&mut out, terminal, &COLUMNS, bits).unwrap();
-        let cells = vec!["2.5".to_string(), "climb".to_string()];
-        rows.row(cells, [Some(2.5), None]).unwrap();
+        rows.pair([2.5, 1.0], ["climb".to_string()]).unwrap();
+        rows.pair([-0.0, 2.5], [String::new()]).unwrap();
         rows.text("refusal").unwrap();
         String::from_utf8(out).unwrap()
     }
 
     #[test]
     fn a_pipe_gets_plain_lines() {
-        assert_eq!(written(false, false), "2.5 climb\nrefusal\n");
-        assert_eq!(
-            written(false, true),
-            "2.5 climb 0x4004000000000000 -\nrefusal\n"
-        );
+        assert_eq!(written(false, false), "2.5 1.0 climb\n-0.0 2.5\nrefusal\n");
+        let with_bits = "2.5 1.0 climb 0x4004000000000000 0x3ff0000000000000\n\
+                         -0.0 2.5 0x8000000000000000 0x4004000000000000\nrefusal\n";
+        assert_eq!(written(false, true), with_bits);
     }
 
     #[test]
     fn a_terminal_gets_titles_and_columns() {
-        assert_eq!(
-            written(true, false),
-            "value     case\n2.5       climb\nrefusal\n"
-        );
-        let with_bits = written(true, true);
-        assert!(
-            with_bits.starts_with("value     case        value bits          derivative bits\n")
-        );
-        assert!(!with_bits.contains(" \n"));
+        let lines = "value     derivative  case\n\
+                     2.5       1.0         climb\n\
+                     -0.0      2.5\nrefusal\n";
+        assert_eq!(written(true, false), lines);
+        let with_bits = "value     derivative  case    value bits          derivative bits\n\
+                         2.5       1.0         climb   0x4004000000000000  0x3ff0000000000000\n\
+                         -0.0      2.5                 0x8000000000000000  0x4004000000000000\n\
+                         refusal\n";
+        assert_eq!(written(true, true), with_bits);
     }
 }

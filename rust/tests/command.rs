@@ -307,9 +307,10 @@ fn help_and_version() {
             assert!(ran.out.contains(part), "{words}: no {part}");
         }
     }
+    let version = env!("CARGO_PKG_VERSION");
     assert_eq!(
         run_text("--version").out,
-        concat!("gozhnerim ", env!("CARGO_PKG_VERSION"), "\n")
+        format!("gozhnerim {version}, library {version}\n")
     );
 }
 

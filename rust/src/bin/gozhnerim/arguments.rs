@@ -4,14 +4,14 @@ use std::ffi::OsString;
 
 use gozhnerim::Function;
 
-use crate::help::{HELP, VERSION};
+use crate::help::{HELP, version};
 use crate::numbers;
 use crate::words::{function, quoted};
 
 /// What is to be done. `bool` is whether bits are wanted.
 #[derive(Debug, PartialEq)]
 pub enum Task {
-    Print(&'static str),
+    Print(String),
     Pair(Call, bool),
     Table(Request, bool),
     Serve(bool),
@@ -53,8 +53,8 @@ pub fn read(words: impl Iterator<Item = OsString>) -> Result<Task, String> {
         match word.as_str() {
             _ if options_end => rest.push(word),
             "--" => options_end = true,
-            "--help" | "-h" => return Ok(Task::Print(HELP)),
-            "--version" => return Ok(Task::Print(VERSION)),
+            "--help" | "-h" => return Ok(Task::Print(HELP.to_string())),
+            "--version" => return Ok(Task::Print(version())),
             "--bits" => bits = true,
             option if option.starts_with("--") => {
                 return Err(format!("there is no option {}", quoted(option)));
@@ -79,7 +79,7 @@ fn task(words: &[&str], bits: bool) -> Result<Task, String> {
             "serve takes no {}; it reads its requests from standard input, one a line",
             quoted(rest[0])
         )),
-        "help" => Ok(Task::Print(HELP)),
+        "help" => Ok(Task::Print(HELP.to_string())),
         _ if function(first).is_some() => Ok(Task::Pair(Call::Table(request(first, words)?), bits)),
         other => Err(format!(
             "{} is none of D, V, table, expansion, maclaurin and serve",

@@ -57,4 +57,10 @@ docs/SUPPORT.md in the repository: refusals, how to reproduce an answer, where
 digits are lost
 ";
 
-pub const VERSION: &str = concat!("gozhnerim ", env!("CARGO_PKG_VERSION"), "\n");
+/// The versions of the command and of the library linked into it.
+pub fn version() -> String {
+    let library = gozhnerim::library_version();
+    let (first, second, third) = (library / 10_000, library / 100 % 100, library % 100);
+    let command = env!("CARGO_PKG_VERSION");
+    format!("gozhnerim {command}, library {first}.{second}.{third}\n")
+}

@@ -56,9 +56,16 @@ impl Ladder {
     /// # Ok::<(), gozhnerim::Refusal>(())
     /// ```
     pub fn request(&mut self, function: Function, v: f64, x: f64) -> Result<Reply, Refusal> {
-        if let Ok(n) = rungs_needed(v) {
-            self.grow(n);
+        let reply = self.request_once(function, v, x);
+        if reply != Err(Refusal::TableTooShort) {
+            return reply;
         }
+        self.grow(rungs_needed(v)?);
+        self.request_once(function, v, x)
+    }
+
+    /// A request on the tables as long as they are.
+    fn request_once(&mut self, function: Function, v: f64, x: f64) -> Result<Reply, Refusal> {
         let (values, derivatives) = (&mut self.values, &mut self.derivatives);
         self.state.request(function, v, x, values, derivatives)
     }
@@ -164,13 +171,12 @@ impl Ladder {
         self.state = State::EMPTY;
     }
 
-    /// Makes the tables long enough for top rung n. The slots that there are keep what they hold.
+    /// Makes the tables long enough for top rung n, and longer, so that a climb rung by rung seldom
+    /// comes back. The slots that there are keep what they hold.
     fn grow(&mut self, n: usize) {
-        if self.values.len() < n + 1 {
-            self.values.resize(n + 1, 0.0);
-        }
-        if self.derivatives.len() < n {
-            self.derivatives.resize(n, 0.0);
+        let slots = (n + 1).next_power_of_two();
+        for table in [&mut self.values, &mut self.derivatives] {
+            table.resize(slots.max(table.len()), 0.0);
         }
     }
 }

@@ -56,15 +56,18 @@ enum { GOZHNERIM_VALUES = 1, GOZHNERIM_DERIVATIVES = 2 };
 #define GOZHNERIM_DERIVATIVE_SLOTS 1000
 
 /*
- * What a request for order v needs, whatever x is. Refusals 1 and 2; all other numbers are 0 then, and f
- * is NaN.
+ * What a table call or a ladder needs for order v. Refusals 1 and 2, which these calls give too, for every
+ * x that is a number; all other numbers are 0 then, and f is NaN.
  */
 typedef struct {
-    uint32_t refusal;     /* 0: the order is taken; else the number of the refusal */
-    uint32_t below_zero;  /* 1 where v < 0, else 0 */
-    uint32_t n;           /* the top rung: a ladder needs n + 1 values and n derivatives */
-    uint32_t num;         /* the whole part of the size of v, plus 3: a table needs 2 * num slots */
-    double f;             /* rung k has order f + k (v >= 0) or f - k (v < 0) */
+    uint32_t refusal;         /* 0: the order is taken; else the number of the refusal */
+    uint32_t below_zero;      /* 1 where v < 0, else 0 */
+    uint32_t n;               /* the top rung: the whole part of the size of v + 1 or v - 1, rounded */
+    uint32_t num;             /* derivative k is in slot num + k of a table */
+    size_t table_slots;       /* a table call's table needs so many slots: 2 * num */
+    size_t value_slots;       /* a ladder's values: n + 1 */
+    size_t derivative_slots;  /* a ladder's derivatives: n */
+    double f;                 /* rung k has order f + k (v >= 0) or f - k (v < 0) */
 } gozhnerim_order;
 
 gozhnerim_order gozhnerim_split(double v);
@@ -145,7 +148,7 @@ enum {
     GOZHNERIM_START_OVER = 3  /* all rungs were written */
 };
 
-/* Which of them a reply of gozhnerim_ladder_d or _v is. */
+/* Which of them a reply of gozhnerim_ladder_d or _v is. Of any other struct it says nothing. */
 uint32_t gozhnerim_case(gozhnerim_reply reply);
 
 /*

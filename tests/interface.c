@@ -83,13 +83,15 @@ static void off_the_path(void)
 static int splits(double v, uint32_t below_zero, uint32_t n, uint32_t num, double f)
 {
     gozhnerim_order o = gozhnerim_split(v);
-    return o.refusal == 0 && o.below_zero == below_zero && o.n == n && o.num == num && same(o.f, f);
+    return o.refusal == 0 && o.below_zero == below_zero && o.n == n && o.num == num && o.table_slots == 2 * num
+        && o.value_slots == n + 1 && o.derivative_slots == n && same(o.f, f);
 }
 
 static int split_refused(double v, uint32_t number)
 {
     gozhnerim_order o = gozhnerim_split(v);
-    return o.refusal == number && o.below_zero == 0 && o.n == 0 && o.num == 0 && isnan(o.f);
+    return o.refusal == number && o.below_zero == 0 && o.n == 0 && o.num == 0 && o.table_slots == 0
+        && o.value_slots == 0 && o.derivative_slots == 0 && isnan(o.f);
 }
 
 /* What an order needs, at its limits; with one slot less the table call gives 3. */
@@ -100,9 +102,10 @@ static void split(void)
 
     CHECK(splits(0.0, 0, 1, 3, 0.0) && splits(-0.0, 0, 1, 3, 0.0));
     CHECK(splits(2.5, 0, 3, 5, 0.5) && splits(-2.5, 1, 3, 5, -0.5));
-    /* v + 1 and v - 1 are rounded: to 2, to -1 and to 1000 */
+    /* v + 1 and v - 1 are rounded: to 2 and to -1 */
     CHECK(splits(0.9999999999999999, 0, 2, 3, 0.0));
     CHECK(splits(-1e-20, 1, 1, 3, 0.0));
+    /* the last orders that are taken */
     CHECK(splits(999.0, 0, 1000, 1002, 0.0));
     CHECK(splits(nextafter(1000.0, 0.0), 0, 1000, 1002, 1.0 - 1.1368683772161603e-13));
     CHECK(split_refused(1000.0, GOZHNERIM_ORDER_SIZE) && split_refused(-1000.0, GOZHNERIM_ORDER_SIZE));
@@ -110,7 +113,7 @@ static void split(void)
 
     for (size_t i = 0; i < sizeof orders / sizeof orders[0]; i++) {
         double v = orders[i];
-        size_t slots = 2 * (size_t)gozhnerim_split(v).num;
+        size_t slots = gozhnerim_split(v).table_slots;
         CHECK(gozhnerim_d_table(v, 1.0, t, slots).refusal == GOZHNERIM_ANSWERED);
         CHECK(gozhnerim_d_table(v, 1.0, t, slots - 1).refusal == GOZHNERIM_TABLE_SHORT);
     }

@@ -58,6 +58,9 @@ pub struct Order {
     pub below_zero: u32,
     pub n: u32,
     pub num: u32,
+    pub table_slots: usize,
+    pub value_slots: usize,
+    pub derivative_slots: usize,
     pub f: f64,
 }
 
@@ -202,7 +205,9 @@ mod tests {
         vec![
             layout!(
                 "gozhnerim_order", Order,
-                refusal "refusal", below_zero "below_zero", n "n", num "num", f "f"
+                refusal "refusal", below_zero "below_zero", n "n", num "num",
+                table_slots "table_slots", value_slots "value_slots",
+                derivative_slots "derivative_slots", f "f"
             ),
             layout!(
                 "gozhnerim_answer", Answer,

@@ -29,7 +29,7 @@ fn split(v: f64) -> Result<c::Order, Refusal> {
 /// assert_eq!(slots_needed(1000.0), Err(Refusal::OrderTooLarge));
 /// ```
 pub fn slots_needed(v: f64) -> Result<usize, Refusal> {
-    Ok(2 * split(v)?.num as usize)
+    Ok(split(v)?.table_slots)
 }
 
 /// n, the top rung of a request for order v: the whole part of the size of v + 1 (v ≥ 0) or v − 1

@@ -15,6 +15,9 @@ int main(void)
     FIELD(gozhnerim_order, below_zero);
     FIELD(gozhnerim_order, n);
     FIELD(gozhnerim_order, num);
+    FIELD(gozhnerim_order, table_slots);
+    FIELD(gozhnerim_order, value_slots);
+    FIELD(gozhnerim_order, derivative_slots);
     FIELD(gozhnerim_order, f);
     printf("\n");
 

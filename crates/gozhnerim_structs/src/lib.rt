@@ -1,5 +1,5 @@
-// The structs of the C interface, as include/gozhnerim.h declares them, and what goes into them and comes out of them.
-// Each public function answers every input.
+// Answer, state and reply as structs of the C interface, as include/gozhnerim.h declares them, and what goes into them and
+// comes out of them. Each public function answers every input.
 
 mod answers;
 mod ladders;

@@ -22,6 +22,9 @@ struct Order {
     below_zero: u32,
     n: u32,
     num: u32,
+    table_slots: usize,
+    value_slots: usize,
+    derivative_slots: usize,
     f: f64,
 }
 
@@ -39,12 +42,15 @@ fn expected(v: f64) -> Order {
         below_zero: 0,
         n: 0,
         num: 0,
+        table_slots: 0,
+        value_slots: 0,
+        derivative_slots: 0,
         f: f64::NAN,
     };
     if v.is_nan() {
         return refused(1);
     }
-    let Some((_, num)) = alloc_buf(v) else {
+    let Some((buffer, num)) = alloc_buf(v) else {
         return refused(2);
     };
     let Split { f, n, .. } = Split::of(v);
@@ -53,17 +59,33 @@ fn expected(v: f64) -> Order {
         below_zero: u32::from(v < 0.0),
         n: n as u32,
         num: num as u32,
+        table_slots: buffer.len(),
+        value_slots: n + 1,
+        derivative_slots: n,
         f,
     }
 }
 
 fn difference(v: f64, ours: &Order) -> Option<Difference> {
     let rust = expected(v);
+    let slots = |order: &Order| {
+        let Order {
+            table_slots,
+            value_slots,
+            derivative_slots,
+            ..
+        } = *order;
+        [table_slots, value_slots, derivative_slots].map(|slots| slots as u32)
+    };
+    let ([table, values, derivatives], rust_slots) = (slots(ours), slots(&rust));
     let wholes = [
         ("refusal", ours.refusal, rust.refusal),
         ("below_zero", ours.below_zero, rust.below_zero),
         ("n", ours.n, rust.n),
         ("num", ours.num, rust.num),
+        ("table_slots", table, rust_slots[0]),
+        ("value_slots", values, rust_slots[1]),
+        ("derivative_slots", derivatives, rust_slots[2]),
     ];
     let difference = wholes
         .into_iter()
@@ -78,11 +100,14 @@ mod tests {
 
     #[test]
     fn wrong_splits_are_seen() {
-        let changes: [fn(&mut Order); 5] = [
+        let changes: [fn(&mut Order); 8] = [
             |order| order.refusal += 1,
             |order| order.below_zero ^= 1,
             |order| order.n += 1,
             |order| order.num += 1,
+            |order| order.table_slots += 1,
+            |order| order.value_slots += 1,
+            |order| order.derivative_slots += 1,
             |order| order.f += 0.5,
         ];
         for v in [0.0, -0.0, 2.5, -2.5, 1.0_f64.next_down(), 999.5] {

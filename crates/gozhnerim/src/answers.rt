@@ -7,9 +7,7 @@ ghost use Rattle.tables.specs.Tables.{refusal, tableAfter, answer};
 ghost use Rattle.expansion.specs.Expansion as expanded;
 ghost use Rattle.maclaurin.specs.Maclaurin as maclaurin;
 ghost use Rattle.gozhnerim_structs.specs.Answers.{answerOf};
-use floats::Function;
 use gozhnerim_structs::GozhnerimAnswer;
-use gozhnerim_structs::flat;
 
 #[no_mangle]
 pub extern "C" fn gozhnerim_d_table(v: f64, x: f64, table: &mut [f64]) -> GozhnerimAnswer
@@ -18,7 +16,7 @@ pub extern "C" fn gozhnerim_d_table(v: f64, x: f64, table: &mut [f64]) -> Gozhne
         ⌝ }
     ensures table { λ _. ⌜ now (table .exit) ≡ tableAfter D v x (now (table .entry)) ⌝ }
 {
-    flat(tables::table(Function::D, v, x, table))
+    gozhnerim_answers::d_table(v, x, table)
 }
 
 #[no_mangle]
@@ -28,19 +26,19 @@ pub extern "C" fn gozhnerim_v_table(v: f64, x: f64, table: &mut [f64]) -> Gozhne
         ⌝ }
     ensures table { λ _. ⌜ now (table .exit) ≡ tableAfter «V» v x (now (table .entry)) ⌝ }
 {
-    flat(tables::table(Function::V, v, x, table))
+    gozhnerim_answers::v_table(v, x, table)
 }
 
 #[no_mangle]
 pub extern "C" fn gozhnerim_d_expansion(v: f64, x: f64) -> GozhnerimAnswer
     ensures { λ r. ⌜ r ≡ answerOf (expanded.refusal v x) (expanded.answer v x) ⌝ }
 {
-    flat(expansion::d_expansion(v, x))
+    gozhnerim_answers::d_expansion(v, x)
 }
 
 #[no_mangle]
 pub extern "C" fn gozhnerim_maclaurin(a: f64, x: f64, c0: f64, c1: f64, e: f64) -> GozhnerimAnswer
     ensures { λ r. ⌜ r ≡ answerOf (maclaurin.refusal a x c0 c1 e) (maclaurin.answer a x c0 c1 e) ⌝ }
 {
-    flat(maclaurin::maclaurin(a, x, c0, c1, e))
+    gozhnerim_answers::maclaurin(a, x, c0, c1, e)
 }

@@ -1,13 +1,10 @@
-// The column reader. An exported function cannot hand a slice back: it gives the length of the part, which begins at
-// the first slot of the table named.
+// The column reader.
 
 ghost use mathlib.Core.Path.{_≡_};
 ghost use lib.ListN.{length};
-ghost use Rattle.gozhnerim.specs.Columns.{columnIn};
-use ladder_reader::Column;
-use ladder_reader::read_column;
+ghost use Rattle.ladder_reader.specs.Numbers.{columnIn};
+use ladder_reader::column_length;
 
-// Which is 1 for the values and 2 for the derivatives; any other number names neither, and its part is empty.
 #[no_mangle]
 pub extern "C" fn gozhnerim_column<'a>(
     values: &'a [f64],
@@ -17,13 +14,5 @@ pub extern "C" fn gozhnerim_column<'a>(
 ) -> usize
     ensures { λ r. ⌜ r ≡ length (columnIn which c (now (values .entry)) (now (derivatives .entry))) ⌝ }
 {
-    if which == 1 {
-        let part = read_column(values, derivatives, Column::Values, c);
-        return part.len();
-    }
-    if which == 2 {
-        let part = read_column(values, derivatives, Column::Derivatives, c);
-        return part.len();
-    }
-    0
+    column_length(values, derivatives, which, c)
 }

@@ -1,7 +1,11 @@
-// The column reader: a part of one of the two tables that the caller lends, of any lengths. It answers every input.
+// The column reader: a part of one of the two tables that the caller lends, of any lengths. Each public function answers
+// every input.
+
+mod numbers;
 
 ghost use mathlib.Core.Path.{_≡_};
 ghost use Rattle.ladder_reader.specs.Columns.{named, firstSlots};
+pub use numbers::column_length;
 
 // One of the two tables.
 pub enum Column {

@@ -1,17 +1,7 @@
--- `gozhnerim::answers::gozhnerim_d_table` meets its contract: the call's own, with the answer flat.
-use mathlib.Core.Path.{ap, ap₂, _∙_}
-use borrow.Author.Needs.{needs}
-use Rattle.gozhnerim_structs.specs.Answers.{answerOf}
+-- `gozhnerim::answers::gozhnerim_d_table` meets its contract: that of the function it calls.
+use native.Mathlib.Omega.{arith}
 use Rattle.gozhnerim.proofs.answers.gozhnerim_d_table.Statement.{statement}
 use Rattle.gozhnerim.proofs.answers.gozhnerim_d_table.Tie as tie
 
 pub gozhnerim-d-table-spec : {M : Type 1} → statement M
-gozhnerim-d-table-spec =
-    tie.close
-    (tie.spec
-    (λ c κs. tt)
-    (λ c κs. tt)
-    (λ c. search needs)
-    (λ c.
-    let t = c .before .before .before .table .ensures in
-    (c .flat .ensures ∙ ap₂ answerOf (t .0) (t .1 .0), t .1 .1)))
+gozhnerim-d-table-spec = tie.close (tie.spec (λ c κs. tt) (λ c. omega arith) (λ c. c .before .before .d-table .ensures))

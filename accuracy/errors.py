@@ -4,6 +4,7 @@ import struct
 import subprocess
 from collections import namedtuple
 from math import inf, isfinite
+from multiprocessing import Pool
 
 from mpmath import mp, mpf, sqrt
 
@@ -12,10 +13,12 @@ import reference
 
 UNIT = 2.0 ** -52
 OVERFLOW, LEAST = mpf(2) ** 1024, mpf(2) ** -1022
+EXPANSION_FROM = -20  # the expansion takes this order and those below
+PROCESSES = 2
 
 # `call` is D, V, E (the expansion) or M (the series). `value` and `derivative` are the errors as parts of the size
-# named in `judged`; both are None where the true pair is no pair of normal floats.
-Point = namedtuple("Point", "part call v x value derivative")
+# named in `judged`, and `size` is that size; all are None where the true pair is no pair of normal floats.
+Point = namedtuple("Point", "part call v x value derivative size")
 
 
 def to_bits(number):
@@ -42,7 +45,7 @@ def error(found, true, size):
 
 
 def judged(pair, true, a, x):
-    """The errors of a pair as parts of the local size of the function, or (None, None).
+    """The errors of a pair as parts of the local size of the function, and that size; or three times None.
 
     The size of the value is the larger of |w| and |w'|/q, that of the derivative q times it, with q the root of
     |x^2/4 + a| or 1 if that is less. Away from zeros this is the relative error.
@@ -50,12 +53,12 @@ def judged(pair, true, a, x):
     mp.prec = 200
     w, slope = true
     if max(abs(w), abs(slope)) >= OVERFLOW:
-        return None, None
-    q = sqrt(max(mpf(1), abs(mpf(x) ** 2 / 4 + a)))
+        return None, None, None
+    q = sqrt(max(mpf(1), abs(mpf(x) ** 2 / 4 + mpf(a.numerator) / a.denominator)))
     size = max(abs(w), abs(slope) / q)
     if size < LEAST:
-        return None, None
-    return error(pair[0], w, size), error(pair[1], slope, size * q)
+        return None, None, None
+    return error(pair[0], w, size), error(pair[1], slope, size * q), float(size)
 
 
 def both_sides(size):
@@ -63,37 +66,36 @@ def both_sides(size):
     return (size, -size) if size else (size,)
 
 
-def table_points(program):
-    """The points of the table calls."""
-    asked = [(part, v, x) for part, v, sizes in grid.table_grid() for size in sizes for x in both_sides(size)]
-    found = iter(answers(program, [(call, (v, x)) for _, v, x in asked for call in "DV"]))
+def calls(task):
+    """The calls of a task: the expansion is asked where it takes the order, and has nothing to do with v - 1."""
+    return "DVE" if task.v <= EXPANSION_FROM and task.part != grid.WORKED_OUT else "DV"
+
+
+def task_points(job):
+    """The points of one task; a job is the program and the task."""
+    program, task = job
+    sizes = sorted(task.sizes, reverse=True)
+    asked = [(call, (task.v, x)) for size in sizes for x in both_sides(size) for call in calls(task)]
+    found = iter(answers(program, asked))
+    order = reference.Order(grid.worked_out(task.v) if task.part == grid.WORKED_OUT else task.v)
     points = []
-    for part, v, sizes in grid.table_grid():
-        order = reference.Order(v)
-        for size in sizes:
-            for x, true in zip(both_sides(size), order.sides(size)):
-                for call, pair in zip("DV", true):
-                    errors = judged(next(found), pair, -mpf(v) - 0.5, x)
-                    points.append(Point(part, call, v, x, *errors))
+    for size in sizes:
+        for x, (d, v) in zip(both_sides(size), order.sides(size)):
+            for call, true in zip(calls(task), (d, v, d)):
+                points.append(Point(task.part, call, task.v, x, *judged(next(found), true, order.a, x)))
     return points
 
 
-def expansion_points(program):
-    """The points of the expansion."""
-    asked = [(v, x) for v in grid.expansion_orders() for size in grid.wide_sizes() for x in both_sides(size)]
-    found = iter(answers(program, [("E", numbers) for numbers in asked]))
-    points = []
-    for v in grid.expansion_orders():
-        order = reference.Order(v)
-        for size in grid.wide_sizes():
-            for x, (true, _) in zip(both_sides(size), order.sides(size)):
-                points.append(Point("", "E", v, x, *judged(next(found), true, -mpf(v) - 0.5, x)))
-    return points
+def points_of(program, tasks):
+    """The points of all tasks, in their order, worked out by two processes."""
+    with Pool(PROCESSES) as pool:
+        lists = pool.map(task_points, [(program, task) for task in tasks], chunksize=4)
+    return [point for points in lists for point in points]
 
 
 def series_points(program):
     """The points of the series; `v` is its a."""
     asked = list(grid.series_inputs())
     found = answers(program, [("M", numbers) for numbers in asked])
-    return [Point("", "M", a, x, *judged(pair, reference.series(a, x, c0, c1, e), a, x))
+    return [Point("", "M", a, x, *judged(pair, reference.series(a, x, c0, c1, e), reference.Fraction(a), x))
             for (a, x, c0, c1, e), pair in zip(asked, found)]

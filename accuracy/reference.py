@@ -7,11 +7,12 @@ Every point of D and V is worked out at two precisions that have to agree, and t
 """
 
 from fractions import Fraction
-from math import isqrt
+from math import hypot, isqrt, log
 
 from mpmath import mp, mpf, pi, rgamma, sqrt
 
 AGREE_BITS = 100  # two precisions agree to this many bits
+START_BITS = 960  # values at 0 have a multiple of these: mpmath's gamma prepares itself once for each precision
 
 
 def dyadic(fraction):
@@ -43,10 +44,12 @@ def at_zero(a, bits):
     h = mpf(a.numerator) / a.denominator / 2
     quarter, three = mpf(1) / 4, mpf(3) / 4
     two = mpf(2)
-    d = sqrt(pi) * two ** (-h - quarter) * rgamma(three + h)
-    d1 = -sqrt(pi) * two ** (quarter - h) * rgamma(quarter + h)
-    v = pi * two ** (h + quarter) * rgamma(three - h) ** 2 * rgamma(quarter + h)
-    v1 = pi * two ** (h + three) * rgamma(quarter - h) ** 2 * rgamma(three + h)
+    above, next_above = rgamma(quarter + h), rgamma(three + h)
+    below, next_below = rgamma(quarter - h), rgamma(three - h)
+    d = sqrt(pi) * two ** (-h - quarter) * next_above
+    d1 = -sqrt(pi) * two ** (quarter - h) * above
+    v = pi * two ** (h + quarter) * next_below ** 2 * above
+    v1 = pi * two ** (h + three) * below ** 2 * next_above
     return d, d1, v, v1
 
 
@@ -68,9 +71,15 @@ def combined(c, u):
 
 
 def growth_bits(a, x):
-    """A bound for the bits by which the solutions grow up to x."""
-    exponent = x * x / 4 + isqrt(int(abs(a)) + 1) * abs(x) + abs(x)
-    return int(exponent * 3 / 2)
+    """The bits by which the solutions grow up to x, about: the integral of sqrt(t^2/4 + |a|) from 0 to |x|. Where it
+    is too few, two precisions do not agree and more are taken."""
+    size, x = abs(float(a)), abs(float(x))
+    turn = 2 * size ** 0.5
+    root = hypot(x, turn)
+    exponent = x * root / 4
+    if size:
+        exponent += size * log((x + root) / turn)
+    return int(exponent / log(2)) + 8
 
 
 def near(one, other):
@@ -79,18 +88,18 @@ def near(one, other):
 
 
 class Order:
-    """The functions of one order; the values at 0 are kept."""
+    """The functions of one order; the values at 0 are kept, so that the largest argument is best asked for first."""
 
     def __init__(self, v):
         self.a = -Fraction(v) - Fraction(1, 2)
-        self.kept = {}
+        self.kept, self.kept_bits = None, 0
 
     def start(self, bits):
-        """(D, D', V, V') at 0; bits are rounded up so that few precisions are kept."""
-        bits = -(-bits // 1024) * 1024
-        if bits not in self.kept:
-            self.kept[bits] = at_zero(self.a, bits)
-        return self.kept[bits]
+        """(D, D', V, V') at 0, with these bits or more."""
+        if bits > self.kept_bits:
+            self.kept_bits = -(-bits // START_BITS) * START_BITS
+            self.kept = at_zero(self.a, self.kept_bits)
+        return self.kept
 
     def tried(self, x, bits):
         """For x and -x: ((D, D'), (V, V'))."""

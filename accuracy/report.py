@@ -2,22 +2,29 @@
 
 from math import log10
 
+import branches
 import grid
 from errors import UNIT, to_bits
 
 LOST = 0.5  # from this error on no digit counts as right
-HEAD = ("| {} | middle | 9 of 10 below | value, largest | derivative, largest | no digit right | largest at v, x |\n"
-        "|---|---|---|---|---|---|---|")
+LARGE, SMALL = 1e300, 1e-300  # between them the function is of ordinary size
+HEAD = ("| {} | median | 9 of 10 below | value, largest measured | derivative, largest measured | no digit right |"
+        " largest measured at v, x |\n|---|---|---|---|---|---|---|")
+
+
+def count(error):
+    """An error in units of 2^-52; "all" if no digit is right."""
+    if error >= LOST:
+        return "all"
+    number = error / UNIT
+    return f"{number:.1f}" if number < 100 else f"{number:.2g}".replace("e+0", "e").replace("e+", "e")
 
 
 def units(error):
-    """An error in units of 2^-52, with the decimal digits that are lost; "all" if no digit is right."""
+    """The same with the decimal digits that are lost."""
     if error >= LOST:
-        return "all"
-    count = error / UNIT
-    lost = max(0.0, log10(count)) if count else 0.0
-    shown = f"{count:.1f}" if count < 100 else f"{count:.2g}".replace("e+0", "e").replace("e+", "e")
-    return f"{shown} ({lost:.1f})"
+        return count(error)
+    return f"{count(error)} ({max(0.0, log10(max(error, UNIT) / UNIT)):.1f})"
 
 
 def worst(point):
@@ -25,75 +32,81 @@ def worst(point):
     return max(point.value, point.derivative)
 
 
+def ordinary(point):
+    """Whether the function is of ordinary size at a point."""
+    return point.size is not None and SMALL <= point.size <= LARGE
+
+
 def lost_digits(point):
     """The decimal digits that a pair has lost, at most 15.7."""
     return min(log10(max(worst(point), UNIT) / UNIT), -log10(UNIT))
 
 
+def median(sizes):
+    """The median of sorted numbers, or the larger of the two in the middle."""
+    return sizes[len(sizes) // 2]
+
+
 def row(name, points):
-    """A row of the table; points whose true pair is no pair of normal floats are left out."""
-    known = [point for point in points if point.value is not None]
-    if not known:
+    """A row of a table."""
+    if not points:
         return f"| {name} | | | | | none measured | |"
-    sizes = sorted(map(worst, known))
-    top = max(known, key=worst)
+    sizes = sorted(map(worst, points))
+    top = max(points, key=worst)
     cells = [
         name,
-        units(sizes[len(sizes) // 2]),
+        units(median(sizes)),
         units(sizes[len(sizes) * 9 // 10]),
-        units(max(point.value for point in known)),
-        units(max(point.derivative for point in known)),
+        units(max(point.value for point in points)),
+        units(max(point.derivative for point in points)),
         f"{sum(size >= LOST for size in sizes)} of {len(sizes)}",
         f"{top.v!r}, {top.x!r}",
     ]
     return "| " + " | ".join(cells) + " |"
 
 
-def branch(point):
-    """The row of the table that a point of a table call belongs to."""
-    return (grid.d_branch if point.call == "D" else grid.v_branch)(point.v, point.x)
-
-
 def by_branch(title, points):
     """A row for each branch of the table calls."""
-    rows = [row(name, [point for point in points if branch(point) == name])
-            for name in grid.D_BRANCHES + grid.V_BRANCHES]
+    known = [point for point in points if ordinary(point) and point.call in "DV"]
+    rows = [row(name, [point for point in known if branches.branch(point) == name])
+            for name in branches.D_BRANCHES + branches.V_BRANCHES]
     return "\n".join([HEAD.format(title), *rows])
 
 
-def beside_rows(points):
-    """Rows for orders beside whole ones."""
-    rows = []
-    for call in "DV":
-        for orders, up in (("v > 0", True), ("v < 0", False)):
-            for side, right in (("x > 0", True), ("x < 0", False)):
-                chosen = [point for point in points
-                          if point.call == call and (point.v > 0) == up and (point.x > 0) == right]
-                rows.append(row(f"{call} beside whole orders, {orders}, {side}", chosen))
-    return rows
+def as_request(point):
+    """A point as a request by bits, which the command of the Rust package takes."""
+    return f"{'expansion' if point.call == 'E' else point.call} 0x{to_bits(point.v)} 0x{to_bits(point.x)}"
 
 
-def other_rows(tables, expansion, series):
-    """Rows for the bands of #111, orders beside whole ones, the expansion and the series."""
-    bands = [point for point in tables
-             if point.call == "D" and point.part != grid.BESIDE and grid.in_bands(point.v, point.x)]
+def bits_of_largest(points):
+    """For each branch the request with the largest error."""
+    known = [point for point in points if ordinary(point) and point.call in "DV"]
+    lines = []
+    for name in branches.D_BRANCHES + branches.V_BRANCHES:
+        top = max((point for point in known if branches.branch(point) == name), key=worst)
+        lines.append(f"{as_request(top)}  {name}")
+    return "\n".join(lines)
+
+
+def band(points, v_ends, x_ends):
+    """The points of D between these ends, wherever the true pair is one of normal floats."""
+    return [point for point in points if point.call == "D" and point.size is not None
+            and v_ends[0] <= point.v < v_ends[1] and x_ends[0] <= point.x < x_ends[1]]
+
+
+def other_rows(points, series, ranges):
+    """Rows for D in four bands, the series, and the recommended ranges where the function is not of ordinary size."""
+    known = [point for point in points if point.part not in (grid.BESIDE, grid.WORKED_OUT)]
+    far = [point for point in known if point.size is not None and not ordinary(point)
+           and any(ranges.inside(point, chosen) for chosen in ranges.RANGES)]
     rows = [
-        row("D in the bands of #111, v < 0", [point for point in bands if point.v < 0]),
-        row("D in the bands of #111, v ≥ 0", [point for point in bands if point.v >= 0]),
-        *beside_rows([point for point in tables if point.part == grid.BESIDE]),
-        row("d_expansion, x ≥ 0", [point for point in expansion if point.x >= 0]),
-        row("d_expansion, x < 0", [point for point in expansion if point.x < 0]),
+        row("D, −20 ≤ v < 0, 1 ≤ x < 12", band(known, (-20, 0), (1, 12))),
+        row("D, −20 ≤ v < 0, 36.5 ≤ x < 60", band(known, (-20, 0), (36.5, 60))),
+        row("D, 0 ≤ v < 20, 4.5 ≤ x < 12", band(known, (0, 20), (4.5, 12))),
+        row("D, 0 ≤ v < 20, 53 ≤ x < 60", band(known, (0, 20), (53, 60))),
+        row("all ranges to recommend, above 1e300", [point for point in far if point.size > LARGE]),
+        row("all ranges to recommend, below 1e−300", [point for point in far if point.size < SMALL]),
         row("maclaurin, a > 0 (a for v)", [point for point in series if point.v > 0]),
         row("maclaurin, a < 0 (a for v)", [point for point in series if point.v < 0]),
     ]
     return "\n".join([HEAD.format("calls"), *rows])
-
-
-def bits_of_largest(points):
-    """For each branch the request with the largest error, by its bits."""
-    lines = []
-    for name in grid.D_BRANCHES + grid.V_BRANCHES:
-        known = [point for point in points if branch(point) == name and point.value is not None]
-        top = max(known, key=worst)
-        lines.append(f"{top.call} 0x{to_bits(top.v)} 0x{to_bits(top.x)}  {name}")
-    return "\n".join(lines)

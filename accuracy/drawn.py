@@ -11,7 +11,7 @@ from random import Random
 import errors
 from grid import EDGES, POWER_RANGE, WIDE_TOP, WORKED_OUT, Task, between
 from ranges import RANGES, all_orders, between_ends, inside, of_range
-from report import as_request, ordinary, units, worst
+from report import LOST, as_request, ordinary, units, worst
 
 SEED = 2
 FACTOR = 4                   # no drawn error is above the row's largest measured times this
@@ -95,14 +95,16 @@ def passing(points, value, derivative):
 
 
 def faults_of(chosen, measured, points):
-    """(what is wrong with a range, the points that it is held to): too few points, points that pass the row, or words
-    that leave out nothing."""
+    """(what is wrong with a range, the points that it is held to): points that pass the row, too few points, a row with
+    no digit right, which nothing can pass, or words that leave out nothing."""
     row, held = of_range(measured, chosen), of_range(points, chosen)
     largest = max(point.value for point in row), max(point.derivative for point in row)
     left_out = [point for point in points
                 if between_ends(point, chosen) and not inside(point, chosen) and ordinary(point)]
     faults = [f"{as_request(point)} passes the row '{chosen.name}': value {units(point.value)}, derivative "
               f"{units(point.derivative)}" for point in passing(held, *largest)[:3]]
+    if max(largest) >= LOST:
+        faults.append(f"the row '{chosen.name}' has points of the grid with no digit right")
     if len(held) < FEWEST:
         faults.append(f"the row '{chosen.name}' is held to {len(held)} points alone")
     if chosen.admits is not all_orders and not passing(left_out, *largest):

@@ -1,19 +1,20 @@
 -- The order of floats: by any fractions that the operands equal, and on all floats transitive and, NaN aside, total.
 use mathlib.Core.Path.{_≡_, refl, sym, ap, _∙_, subst}
-use mathlib.Core.Logic.{inl, inr}
+use mathlib.Core.Logic.{_⊎_, inl, inr}
 use Prim.Native.Nat.{ℕ, _+_, _*_, _≤_, _<_}
-use native.Mathlib.Nat.{le-of-eq, le-of-lt, eq-or-lt-of-le, lt-of-not-le, zero-mul, mul-comm, mul-assoc, mul-pos}
+use native.Mathlib.Nat.{le-of-eq, le-of-lt, eq-or-lt-of-le, lt-of-not-le, zero-mul, mul-comm, mul-assoc, mul-pos, eq-of-mul-eq-mul-right}
 use native.Mathlib.Omega.{arith}
 use mathlib.Core.Bool.{Bool, true, false, not, _&&_, _||_, Bool·beq}
 use lib.IntN.{ℤ}
 use lib.Dec.{T, ltb, eqb, ltb→lt, lt→ltb, eqb→eq, T-not, not-T}
-use lib.Ieee.{Float, nan, inf, fin, Format, up, down, lt, le, eq, below, level, fits, isNan}
+use lib.Ieee.{Float, nan, inf, fin, Format, up, down, lt, le, eq, below, level, fits, isNan, ofBits}
 use lib.Ieee.Fits.{eq→eqb, and-i, down-pos, and-l, and-r}
 use lib.Ieee.Exact.{HasValue}
+use Rattle.floats.specs.Operations.{f0}
 use Rattle.floats.specs.Facts.{SignedLe}
 use Rattle.floats.proofs.Booleans.{same-test, or-split, or-l, or-r}
-use Rattle.floats.proofs.Tests.{lt-or-ge, le-of-tests, ltb-same, eqb-same, add-scale, scale-l, scale-r}
-use Rattle.floats.proofs.Values.{value-unique, rescale, fin-value}
+use Rattle.floats.proofs.Tests.{one, lt-or-ge, le-of-tests, ltb-same, eqb-same, add-scale, scale-l, scale-r}
+use Rattle.floats.proofs.Values.{value-unique, rescale, own-value, zero-value, fin-value}
 
 -- ---- a comparison, over one denominator
 
@@ -52,6 +53,50 @@ eq-at (fin u m e) (fin r n d) s a t b c C v w =
     ∙ ap (λ (z : Bool). eqb a b && (Bool·beq u r || z)) (eqb-same A 0 D a 0 c P C x (zero-mul c ∙ sym (zero-mul D)))
     ∙ ap (λ (z : Bool). level z a r b) (v .0)
     ∙ ap (λ (z : Bool). level s a z b) (w .0)
+
+-- equal floats: one size, and one sign unless that is 0
+pub equal-value : (x y : Float) (t : Bool) (b c : ℕ) → 0 < c → HasValue y t b c → T (eq x y) → (s : Bool) × HasValue x s b c × ((b ≡ 0) ⊎ (s ≡ t))
+unfolding eq
+equal-value nan y t b c C w h = absurd h
+equal-value (inf s) nan t b c C w h = absurd w
+equal-value (inf s) (inf r) t b c C w h = absurd w
+equal-value (inf s) (fin r n d) t b c C w h = absurd h
+equal-value (fin s m e) y t b c C w h =
+    let A = m * up e * c in
+    let B = b * down e in
+    let D = down e * c in
+    let v : HasValue (fin s m e) s A D = rescale (fin s m e) s (m * up e) (down e) A D (down-pos e) (swap (m * up e) (down e) c) (own-value s m e) in
+    let w' : HasValue y t B D = rescale y t b c B D C (sym (mul-assoc b (down e) c)) w in
+    let k : T (level s A t B) = subst T (eq-at (fin s m e) y s A t B D (mul-pos (down-pos e) C) v w') h in
+    let same : A ≡ B = eqb→eq A B (and-l (eqb A B) (Bool·beq s t || eqb A 0) k) in
+    (s, (refl, same), signs same (or-split (Bool·beq s t) (eqb A 0) (and-r (eqb A B) (Bool·beq s t || eqb A 0) k)))
+  where
+    swap : (m c d : ℕ) → m * (c * d) ≡ m * d * c
+    swap m c d = omega arith
+
+    like : (s t : Bool) → T (Bool·beq s t) → s ≡ t
+    like true true h = refl
+    like false false h = refl
+    like true false h = absurd h
+    like false true h = absurd h
+
+    signs : m * up e * c ≡ b * down e → T (Bool·beq s t) ⊎ T (eqb (m * up e * c) 0) → (b ≡ 0) ⊎ (s ≡ t)
+    signs same (inl h) = inr (like s t h)
+    signs same (inr h) =
+        inl (eq-of-mul-eq-mul-right (down e) (down-pos e) b 0 (sym same ∙ eqb→eq (m * up e * c) 0 h ∙ sym (zero-mul (down e))))
+
+-- equal to 0: a zero, of either sign
+pub zero-equal : (x : Float) (s : Bool) → HasValue x s 0 1 → T (eq x f0)
+unfolding ofBits
+zero-equal x s v = subst T (sym (eq-at x f0 s 0 false 0 1 one v (zero-value 1))) (go s)
+  where
+    go : (s : Bool) → T (level s 0 false 0)
+    go true = tt
+    go false = tt
+
+pub equal-zero : (x : Float) → T (eq x f0) → (s : Bool) × HasValue x s 0 1
+unfolding ofBits
+equal-zero x h = let k = equal-value x f0 false 0 1 one (zero-value 1) h in (k .0, k .1)
 
 le-is : (x y : Float) → le x y ≡ (lt x y || eq x y)
 unfolding le

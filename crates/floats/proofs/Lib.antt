@@ -4,6 +4,7 @@ pub mod Values
 pub mod Arithmetic
 pub mod Comparison
 pub mod Rounding
+pub mod Opposites
 pub mod Monotone
 pub mod Wholes
 pub mod Parts

@@ -5,7 +5,7 @@ use native.Mathlib.Nat.{zero-mul, lt-irrefl, mul-comm, mul-assoc, mul-right-comm
 use mathlib.Core.Bool.{Bool, true, false, not, cond}
 use lib.IntN.{ℤ, pos, negℤ}
 use lib.Dec.{T}
-use lib.Ieee.{Float, nan, inf, fin, Format, prec, low, up, down, size, neg, fits, ofBits, toBits, top, hid, toSigned, toUnsigned, ofInt}
+use lib.Ieee.{Float, nan, inf, fin, Format, prec, low, up, down, size, neg, fits, isNan, ofBits, toBits, top, hid, toSigned, toUnsigned, ofInt}
 use lib.Ieee.Back.{round-whole}
 use lib.Ieee.Fits.{down-pos}
 use lib.Ieee.Exact.{HasValue}
@@ -39,6 +39,12 @@ pub value-finite : (x : Float) (s : Bool) (a c : ℕ) → HasValue x s a c → T
 value-finite nan s a c v = absurd v
 value-finite (inf t) s a c v = absurd v
 value-finite (fin t m e) s a c v = tt
+
+pub value-number : (x : Float) (s : Bool) (a c : ℕ) → HasValue x s a c → isNan x ≡ false
+unfolding isNan
+value-number nan s a c v = absurd v
+value-number (inf t) s a c v = absurd v
+value-number (fin t m e) s a c v = refl
 
 pub same-sign : (x : Float) (s t : Bool) (a c b d : ℕ) → HasValue x s a c → HasValue x t b d → s ≡ t
 same-sign nan s t a c b d v w = absurd v

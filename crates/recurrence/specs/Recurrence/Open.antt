@@ -1,5 +1,5 @@
 -- What each definition is, case by case, for the proofs of this crate. No other crate cites this module:
--- proofs/Laws.antt passes on what `rungs` needs.
+-- proofs/Laws.antt passes on what `rungs` and `table_mirror` need.
 use mathlib.Core.Path.{_≡_, refl}
 use Prim.Native.Nat.{ℕ}
 use mathlib.Core.Bool.{Bool, true, false, _&&_, cond}

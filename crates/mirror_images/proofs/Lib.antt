@@ -1,0 +1,4 @@
+pub mod Views
+pub mod Products
+pub mod Sums
+pub mod Laws

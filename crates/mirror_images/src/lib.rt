@@ -1,0 +1,1 @@
+// When two floats are mirror images of each other. It has no function.

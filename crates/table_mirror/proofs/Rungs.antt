@@ -1,0 +1,66 @@
+-- D's rungs from order 0 on with no fraction, at x and at −x: by induction over the recurrence, and their derivatives.
+use mathlib.Core.Path.{_≡_, refl, sym, ap, _∙_}
+use Prim.Native.Nat.{ℕ, zero, suc, _+_}
+use mathlib.Core.Bool.{Bool, true, false, not}
+use lib.Ieee.{Float, binary64, neg, eq}
+use Rattle.floats.specs.Operations.{_⊕_, _⊖_, _⊗_, whole, f0, f1, f¼}
+use Rattle.floats.specs.declared.Function.the-variants.{D}
+use Rattle.floats.proofs.Opposites.{square-same}
+use Rattle.exponential.specs.Exponential.{exp}
+use Rattle.mirror_images.specs.Images.{MirrorOf, odd}
+use Rattle.mirror_images.proofs.Laws.{itself, difference, times, times-argument, times-half}
+use Rattle.recurrence.proofs.Laws.{step-D-above}
+use Rattle.derivatives.specs.Derivatives.{derivative}
+use Rattle.derivatives.proofs.Laws.{derivative-D-above}
+use Rattle.rungs.specs.Rungs.{gaussian, rung}
+use Rattle.rungs.proofs.Laws.{gaussian-is, gaussian-zero, gaussian-one, gaussian-next}
+
+-- e^(−x²/4) is the same at −x, to the bit
+gaussian-same : (x : Float) → gaussian (neg x) ≡ gaussian x
+gaussian-same x = gaussian-is (neg x) ∙ ap exp (square-same binary64 (neg f¼) x) ∙ sym (gaussian-is x)
+
+not-not : (s : Bool) → not (not s) ≡ s
+not-not true = refl
+not-not false = refl
+
+module _ (f : Float) (none : eq f f0 ≡ true) where
+  -- rung k at an argument
+  abbrev at : Float → ℕ → Float
+  at x = rung (record { function = D; below = false; x = x; f = f })
+
+  later : (x : Float) (k : ℕ) → at x (suc (suc k)) ≡ x ⊗ at x (suc k) ⊖ (whole (k + 2) ⊕ f ⊖ f1) ⊗ at x k
+  later x k = gaussian-next x f none k ∙ step-D-above x f (k + 2) (at x k) (at x (suc k))
+
+  module _ (x : Float) where
+    abbrev Image : Bool → ℕ → Type 0
+    Image s k = MirrorOf s (at x k) (at (neg x) k)
+
+    image-zero : Image false 0
+    image-zero = rw (gaussian-zero x f none, gaussian-zero (neg x) f none, gaussian-same x) (itself (gaussian x))
+
+    image-one : Image true 1
+    image-one = rw (gaussian-one x f none, gaussian-one (neg x) f none, gaussian-same x) (times-argument x (itself (gaussian x)))
+
+    image-next : (k : ℕ) (s : Bool) → Image s k → Image (not s) (suc k) → Image (not (not s)) (suc (suc k))
+    image-next k s low high =
+        rw (later x k, later (neg x) k)
+        (difference (times-argument x high) (rw (not-not s) (times (whole (k + 2) ⊕ f ⊖ f1) low)))
+
+    images : (k : ℕ) → Image (odd k) k × Image (odd (suc k)) (suc k)
+    unfolding odd
+    images zero = (image-zero, image-one)
+    images (suc k) = let p = images k in (p .1, image-next k (odd k) (p .0) (p .1))
+
+    -- VALUE k
+    pub value-image : (k : ℕ) → MirrorOf (odd k) (at x k) (at (neg x) k)
+    value-image k = images k .0
+
+    -- DERIVATIVE k
+    pub derivative-image : (k : ℕ)
+        → MirrorOf (odd (suc k)) (derivative D false x f k (at x k) (at x (suc k)))
+        (derivative D false (neg x) f k (at (neg x) k) (at (neg x) (suc k)))
+    unfolding odd
+    derivative-image k =
+        let p = images k in
+        rw (derivative-D-above x f k (at x k) (at x (suc k)), derivative-D-above (neg x) f k (at (neg x) k) (at (neg x) (suc k)))
+        (difference (times-half x (p .0)) (p .1))

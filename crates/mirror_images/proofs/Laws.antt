@@ -1,15 +1,81 @@
--- What keeps mirror images: a product, a sum, a difference, a product with the argument or with its half. The signs of a
--- product multiply; a sum and a difference are of two with one sign.
-use mathlib.Core.Path.{refl, subst}
-use mathlib.Core.Bool.{Bool, true, false, not}
-use lib.Ieee.{Float, binary64, neg, unlike}
+-- What mirror images are by the comparison of floats, and what keeps them: a product, whose signs multiply, a sum and a
+-- difference of two with one sign, a product with the argument or with its half.
+use mathlib.Core.Path.{_≡_, refl, sym, subst}
+use mathlib.Core.Logic.{_⊎_, inl, inr}
+use Prim.Native.Nat.{ℕ, suc, _%_}
+use native.Mathlib.Omega.{arith}
+use mathlib.Core.Bool.{Bool, true, false, not, _||_, Bool·beq, cond}
+use lib.Dec.{T, eqb, eqb-refl}
+use lib.Ieee.{Float, nan, inf, binary64, neg, eq, level, isNan, unlike}
+use lib.Ieee.Fits.{and-i, eq→eqb}
 use Rattle.floats.specs.Operations.{_⊕_, _⊖_, _⊗_, f½}
+use Rattle.floats.proofs.Booleans.{or-r}
+use Rattle.floats.proofs.Tests.{lt-or-ge}
+use Rattle.floats.proofs.Comparison.{eq-at}
 use Rattle.floats.proofs.Arithmetic.{sub-is}
 use Rattle.floats.proofs.Opposites.{unlike-false, unlike-true}
-use Rattle.mirror_images.specs.Images.{signed, MirrorOf, exact}
-use Rattle.mirror_images.proofs.Views.{view}
+use Rattle.mirror_images.specs.Images.{signed, MirrorOf, exact, odd}
+use Rattle.mirror_images.proofs.Views.{View, no-numbers, infinite, sized, signed-inf, signed-value, view}
 use Rattle.mirror_images.proofs.Products.{mul-views}
 use Rattle.mirror_images.proofs.Sums.{add-views, neg-views}
+
+-- ---- what images are by the comparison of floats
+
+signed-is : (s : Bool) (a : Float) → signed s a ≡ cond s (neg a) a
+unfolding signed
+signed-is true a = refl
+signed-is false a = refl
+
+nan-is : T (isNan nan)
+unfolding isNan
+nan-is = tt
+
+same-infinity : (t : Bool) → T (eq (inf t) (inf t))
+unfolding eq
+same-infinity true = tt
+same-infinity false = tt
+
+same-size : (m : ℕ) (t u : Bool) → (m ≡ 0) ⊎ (t ≡ u) → T (level t m u m)
+same-size m t u h = and-i (eqb m m) (Bool·beq t u || eqb m 0) (eqb-refl m) (go t u h)
+  where
+    go : (t u : Bool) → (m ≡ 0) ⊎ (t ≡ u) → T (Bool·beq t u || eqb m 0)
+    go t u (inl e) = or-r (Bool·beq t u) (eqb m 0) (eq→eqb e)
+    go true u (inr e) = rw (← e) tt
+    go false u (inr e) = rw (← e) tt
+
+-- THE RELATION in IEEE 754's words: both are NaN, or b is equal to a, or to −a
+pub in-words : (s : Bool) (a b : Float) → MirrorOf s a b → (T (isNan a) × T (isNan b)) ⊎ T (eq b (cond s (neg a) a))
+in-words s a b p = rw (← signed-is s a) (go (view s a b p))
+  where
+    go : View s a b → (T (isNan a) × T (isNan b)) ⊎ T (eq b (signed s a))
+    go (no-numbers e h) = inl (rw e nan-is, rw h nan-is)
+    go (infinite t u e h k) = inr (rw (k, h, e, signed-inf s t) (same-infinity (unlike s t)))
+    go (sized w) =
+        inr
+        (subst T
+        (sym (eq-at b (signed s a) (w .u) (w .m) (unlike s (w .t)) (w .m) (w .c) (w .positive) (w .right) (signed-value s a (w .t) (w .m) (w .c) (w .left))))
+        (same-size (w .m) (w .u) (unlike s (w .t)) (w .signs)))
+
+-- ---- signs
+
+pub odd-zero : odd 0 ≡ false
+unfolding odd
+odd-zero = refl
+
+pub odd-next : (k : ℕ) → odd (suc k) ≡ not (odd k)
+unfolding odd
+odd-next k = elim (lt-or-ge (k % 2) 1) [
+  | inl h ↦
+      let e : k % 2 ≡ 0 = omega arith in
+      let f : suc k % 2 ≡ 1 = omega arith in
+      rw (e, f)
+  | inr h ↦
+      let e : k % 2 ≡ 1 = omega arith in
+      let f : suc k % 2 ≡ 0 = omega arith in
+      rw (e, f)
+]
+
+-- ---- what keeps images
 
 -- a float and itself, a float and its opposite
 pub itself : (a : Float) → MirrorOf false a a

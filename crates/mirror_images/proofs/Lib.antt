@@ -1,3 +1,4 @@
+pub mod Examples
 pub mod Views
 pub mod Products
 pub mod Sums

@@ -43,12 +43,12 @@ unfolding signed neg
 signed-nan true = refl
 signed-nan false = refl
 
-signed-inf : (s t : Bool) → signed s (inf t) ≡ inf (unlike s t)
+pub signed-inf : (s t : Bool) → signed s (inf t) ≡ inf (unlike s t)
 unfolding signed neg
 signed-inf true t = ap inf (sym (unlike-true t))
 signed-inf false t = ap inf (sym (unlike-false t))
 
-signed-value : (s : Bool) (x : Float) (t : Bool) (a c : ℕ) → HasValue x t a c → HasValue (signed s x) (unlike s t) a c
+pub signed-value : (s : Bool) (x : Float) (t : Bool) (a c : ℕ) → HasValue x t a c → HasValue (signed s x) (unlike s t) a c
 unfolding signed
 signed-value true x t a c v = rw (unlike-true t) (neg-value x t a c v)
 signed-value false x t a c v = rw (unlike-false t) v

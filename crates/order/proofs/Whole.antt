@@ -6,23 +6,30 @@ use native.Mathlib.Nat.{le-refl, div-one}
 use native.Mathlib.Omega.{arith}
 use mathlib.Core.Bool.{Bool, true, false}
 use borrow.Author.Tests.{le-ltb}
-use lib.Dec.{T, not-T}
+use lib.Dec.{T, not-T, eqb, eqb-refl}
 use lib.IntN.{pos, natAbs}
 use lib.Ieee.{Float, binary64, prec, le, below as belowTest, round, toSigned, ofInt, ofBits}
-use lib.Ieee.Bits.{is-false}
+use lib.Ieee.Bits.{is-true, is-false}
 use lib.Ieee.Exact.{HasValue}
+use lib.Ieee.Fits.{ofInt-fits}
 use Rattle.floats.specs.Operations.{whole, f0}
 use Rattle.floats.specs.Facts.{signedInt}
 use Rattle.signs.specs.Signs.{absolute}
 use Rattle.signs.proofs.Edges.{absolute-value}
 use Rattle.floats.proofs.Tests.{one}
 use Rattle.floats.proofs.Values.{value-number, ofInt-pos, toSigned-at}
-use Rattle.floats.proofs.Comparison.{lt-at, le-at, equal-value, signedLe-of-test}
+use Rattle.floats.proofs.Comparison.{lt-at, eq-at, le-at, equal-value, signedLe-of-test}
 use Rattle.floats.proofs.Wholes.{of-pos, whole-sub}
 use Rattle.order.specs.Order.{f1000, tooLarge, below, shifted, fractionOf}
 use Rattle.order.specs.Order.Open.{tooLarge-is, below-is, shifted-is, fractionOf-is, topRung-is, num-is}
 use Rattle.order.specs.Whole.{WholeOrder, WholeParts}
 use Rattle.order.proofs.Facts.{nought-value, thousand-value, shifted-at, capped, signed-size}
+
+-- every whole number from 0 to 999 is one
+pub whole-order : (m : ℕ) → m ≤ 999 → WholeOrder (whole m) m
+whole-order m h =
+    let v = ofInt-pos binary64 m (omega arith) in
+    record { most = h; same = eq-at (whole m) (whole m) false m false m 1 one v v ∙ rw (is-true (eqb m m) (eqb-refl m)); fit = ofInt-fits binary64 (pos m) }
 
 module _ (v : Float) (m : ℕ) (order : WholeOrder v m) where
   room : m + 1 ≤ 2 ^ prec binary64

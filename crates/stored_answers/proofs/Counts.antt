@@ -6,7 +6,8 @@ use native.Mathlib.Numerals.{add-one}
 use mathlib.Core.Bool.{Bool, true, false}
 use mathlib.Core.List.{List}
 use lib.ListN.{take, drop}
-use Rattle.stored_answers.specs.Answers.{held, missed, differing}
+use Rattle.stored_records.specs.Words.{missed}
+use Rattle.stored_answers.specs.Answers.{held, differing}
 
 pub missed-few : (b : Bool) → missed b ≤ 1
 missed-few true = omega arith

@@ -7,7 +7,7 @@ use lib.Dec.{eqb, leb}
 use lib.Ieee.{Float}
 use Rattle.signs.specs.Signs.{alike}
 use Rattle.floats.specs.Operations.{bits}
-use Rattle.stored_answers.specs.Words.{wordAt}
+use Rattle.stored_records.specs.Words.{wordAt, missed}
 use Rattle.stored_answers.specs.Floats.{floatsAnswer}
 use Rattle.stored_answers.specs.Elementary.{elementaryAnswer}
 use Rattle.stored_answers.specs.StartSums.{startSumsAnswer}
@@ -26,10 +26,6 @@ answer n x y =
 -- whether the function of a record answers what the record holds
 unfoldable pub held : List ℕ → Bool
 held s = alike (answer (wordAt s 0) (bits (wordAt s 8)) (bits (wordAt s 16))) (bits (wordAt s 24))
-
--- 1 where a test failed
-abbrev pub missed : Bool → ℕ
-missed b = cond b 0 1
 
 -- how many of the first n records of s differ
 unfoldable pub differing : List ℕ → ℕ → ℕ

@@ -1,4 +1,3 @@
-pub mod Words
 pub mod Floats
 pub mod Elementary
 pub mod StartSums

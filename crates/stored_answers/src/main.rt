@@ -3,7 +3,6 @@
 mod elementary_answer;
 mod expansion_answer;
 mod floats_answer;
-mod record;
 mod replayed;
 mod start_sums_answer;
 mod tables_answer;
@@ -11,20 +10,14 @@ mod tables_answer;
 ghost use mathlib.Core.Path.{_≡_};
 ghost use Prim.Native.Nat.{_+_, _/_};
 ghost use lib.ListN.{length};
-ghost use Rattle.stored_answers.specs.Answers.{differing, leftOver, missed};
+ghost use Rattle.stored_answers.specs.Answers.{differing, leftOver};
 use libc::STDOUT_FILENO;
+use stored_records::one_unless;
 
 // How many records were replayed, and how many of them differ.
 pub struct Tally {
     pub records: u64,
     pub differences: u64,
-}
-
-// 1 where a test failed.
-fn one_unless(passed: bool) -> u64
-    ensures { λ r. ⌜ r ≡ missed passed ⌝ }
-{
-    if passed { 0 } else { 1 }
 }
 
 // Every record of s, 32 bytes each. What is left over is no record and counts as a difference.

@@ -1,14 +1,13 @@
-// A record of a data file: the number of a function, x, y and the answer.
+// A record of a data file, replayed.
 
 ghost use mathlib.Core.Path.{_≡_};
 ghost use Rattle.stored_answers.specs.Answers.{answer, held};
 use crate::elementary_answer;
 use crate::expansion_answer;
 use crate::floats_answer;
-use crate::record::number;
-use crate::record::word;
 use crate::start_sums_answer;
 use crate::tables_answer;
+use stored_records::read_record;
 
 // Number n at x and y.
 fn answer_of(n: u64, x: f64, y: f64) -> f64
@@ -33,8 +32,6 @@ fn answer_of(n: u64, x: f64, y: f64) -> f64
 pub fn is_alike(s: &[u8]) -> bool
     ensures { λ r. ⌜ r ≡ held (now (s .entry)) ⌝ }
 {
-    signs::alike(
-        answer_of(word(s, 0), number(s, 8), number(s, 16)),
-        number(s, 24),
-    )
+    let r = read_record(s);
+    signs::alike(answer_of(r.number, r.x, r.y), r.answer)
 }

@@ -8,7 +8,7 @@ use Rattle.floats.specs.declared.Function.the-variants.{D}
 use Rattle.floats.proofs.Opposites.{square-same}
 use Rattle.exponential.specs.Exponential.{exp}
 use Rattle.mirror_images.specs.Images.{MirrorOf, odd}
-use Rattle.mirror_images.proofs.Laws.{itself, difference, times, times-argument, times-half}
+use Rattle.mirror_images.proofs.Laws.{odd-zero, odd-next, itself, difference, times, times-argument, times-half}
 use Rattle.recurrence.proofs.Laws.{step-D-above}
 use Rattle.derivatives.specs.Derivatives.{derivative}
 use Rattle.derivatives.proofs.Laws.{derivative-D-above}
@@ -46,10 +46,9 @@ module _ (f : Float) (none : eq f f0 ≡ true) where
         rw (later x k, later (neg x) k)
         (difference (times-argument x high) (rw (not-not s) (times (whole (k + 2) ⊕ f ⊖ f1) low)))
 
-    images : (k : ℕ) → Image (odd k) k × Image (odd (suc k)) (suc k)
-    unfolding odd
-    images zero = (image-zero, image-one)
-    images (suc k) = let p = images k in (p .1, image-next k (odd k) (p .0) (p .1))
+    images : (k : ℕ) → Image (odd k) k × Image (not (odd k)) (suc k)
+    images zero = rw odd-zero (image-zero, image-one)
+    images (suc k) = let p = images k in rw (odd-next k) (p .1, image-next k (odd k) (p .0) (p .1))
 
     -- VALUE k
     pub value-image : (k : ℕ) → MirrorOf (odd k) (at x k) (at (neg x) k)
@@ -59,8 +58,7 @@ module _ (f : Float) (none : eq f f0 ≡ true) where
     pub derivative-image : (k : ℕ)
         → MirrorOf (odd (suc k)) (derivative D false x f k (at x k) (at x (suc k)))
         (derivative D false (neg x) f k (at (neg x) k) (at (neg x) (suc k)))
-    unfolding odd
     derivative-image k =
         let p = images k in
-        rw (derivative-D-above x f k (at x k) (at x (suc k)), derivative-D-above (neg x) f k (at (neg x) k) (at (neg x) (suc k)))
+        rw (odd-next k, derivative-D-above x f k (at x k) (at x (suc k)), derivative-D-above (neg x) f k (at (neg x) k) (at (neg x) (suc k)))
         (difference (times-half x (p .0)) (p .1))

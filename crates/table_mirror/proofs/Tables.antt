@@ -11,9 +11,10 @@ use lib.Ieee.{Float, nan, inf, fin, neg, eq, isNan, ofBits}
 use Rattle.floats.specs.Operations.{f0}
 use Rattle.floats.specs.declared.Function.the-variants.{D}
 use Rattle.mirror_images.specs.Images.{MirrorOf, odd}
+use Rattle.mirror_images.proofs.Laws.{in-words}
 use Rattle.order.specs.Order.{shifted, topRung}
-use Rattle.order.specs.Whole.{WholeOrder, WholeParts}
-use Rattle.order.proofs.Whole.{whole-parts}
+use Rattle.order.specs.Whole.{WholeOrder, limits, WholeParts}
+use Rattle.order.proofs.Whole.{whole-order, whole-parts}
 use Rattle.derivatives.specs.Derivatives.{derivative}
 use Rattle.branches.proofs.Laws.{D-forward}
 use Rattle.rungs.specs.declared.Sequence.{Sequence}
@@ -79,7 +80,7 @@ module _ (v x : Float) (m : ℕ) (l r : List Float) (order : WholeOrder v m) (nu
   tables : TablesMirrored m (tableAfter D v x l) (tableAfter D v (neg x) r)
   tables = record {
     values =
-        λ k h. let b : k ≤ topRung v = rw (parts .top) h in rw (here .values k b, there .values k b) (value-mirrored v m parts x k);
+        λ k h. let b : k ≤ topRung v = rw (parts .top) (omega arith) in rw (here .values k b, there .values k b) (value-mirrored v m parts x k);
     derivatives =
         λ k h. let b : k < topRung v = rw (parts .top) (omega arith) in
         rw (← parts .columns, here .derivatives k b, there .derivatives k b) (derivative-mirrored v m parts x k);
@@ -105,5 +106,4 @@ module _ (v x : Float) (m : ℕ) (l r : List Float) (order : WholeOrder v m) (nu
   }
 
 pub mirror-check : MirrorCheck
-unfolding MirrorCheck
-mirror-check v x m l r order number long long' = mirrored v x m l r order number long long'
+mirror-check = record { mirrored = mirrored; orders = whole-order; minus-zero = limits .1; images = in-words }

@@ -3,10 +3,13 @@
 use mathlib.Core.Path.{_≡_}
 use mathlib.Core.List.{List}
 use mathlib.Core.Option.{Option, some}
-use mathlib.Core.Bool.{false}
+use mathlib.Core.Logic.{_⊎_}
+use mathlib.Core.Bool.{Bool, false, cond}
 use Prim.Native.Nat.{ℕ, _+_, _*_, _≤_}
+use lib.Dec.{T}
 use lib.ListN.{length}
-use lib.Ieee.{Float, neg, isNan}
+use lib.Ieee.{Float, neg, eq, isNan}
+use Rattle.floats.specs.Operations.{whole, f0}
 use Rattle.floats.specs.declared.Function.the-variants.{D}
 use Rattle.mirror_images.specs.Images.{MirrorOf, odd}
 use Rattle.order.specs.Whole.{WholeOrder}
@@ -33,8 +36,14 @@ pub record Mirrored (v x : Float) (m : ℕ) (l r : List Float) : Type 0 where
   pub tables : TablesMirrored m (tableAfter D v x l) (tableAfter D v (neg x) r)
   pub answers : AnswersMirrored m (answer D v x (length l)) (answer D v (neg x) (length r))
 
--- THE MIRROR CHECK: for every x that is a number, ±0 and the infinities too, and any two tables that are long enough,
--- whatever they hold
-unfoldable pub MirrorCheck : Type 0
-MirrorCheck = (v x : Float) (m : ℕ) (l r : List Float) → WholeOrder v m → isNan x ≡ false
-    → 2 * (m + 3) ≤ length l → 2 * (m + 3) ≤ length r → Mirrored v x m l r
+-- THE MIRROR CHECK
+pub record MirrorCheck : Type 0 where
+  -- for every x that is a number, ±0 and the infinities too, and any two tables that are long enough, whatever they hold
+  pub mirrored : (v x : Float) (m : ℕ) (l r : List Float) → WholeOrder v m → isNan x ≡ false
+      → 2 * (m + 3) ≤ length l → 2 * (m + 3) ≤ length r → Mirrored v x m l r
+  -- the orders that this is about: every whole number from 0 to 999, and −0.0
+  pub orders : (m : ℕ) → m ≤ 999 → WholeOrder (whole m) m
+  pub minus-zero : WholeOrder (neg f0) 0
+  -- an image in IEEE 754's words: both are NaN, or b is equal to a, or to −a
+  pub images : (opposite : Bool) (a b : Float) → MirrorOf opposite a b
+      → (T (isNan a) × T (isNan b)) ⊎ T (eq b (cond opposite (neg a) a))

@@ -12,11 +12,6 @@ is-alike-spec =
     (λ c κs. tt)
     (λ c κs. tt)
     (λ c κs. tt)
-    (λ c κs. tt)
-    (λ c κs. tt)
-    (λ c κs. tt)
     (λ c.
-    let a = c .before .before in
-    let n = a .before .before .before in
-    c .alike .ensures
-    ∙ rw (a .answer-of .ensures, n .word .ensures, a .before .before .number .ensures, a .before .number2 .ensures, c .before .number3 .ensures)))
+    let r = c .before .before .read-record .ensures in
+    c .alike .ensures ∙ rw (c .before .answer-of .ensures, r .0, r .1 .0, r .1 .1 .0, r .1 .1 .1)))

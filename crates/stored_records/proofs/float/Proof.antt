@@ -1,4 +1,4 @@
--- `stored_answers::record::float` meets its contract: a pattern is a NaN's where its lower 63 bits are above an infinity's.
+-- `stored_records::float` meets its contract: a pattern is a NaN's where its lower 63 bits are above an infinity's.
 use mathlib.Core.Path.{_≡_, refl, sym, _∙_}
 use mathlib.Core.Bool.{not}
 use Prim.Native.Nat.{ℕ, _%_, _<_, _≤_}
@@ -7,8 +7,8 @@ use lib.Dec.{T}
 use lib.Ieee.{nan, binary64, nanBits, ofBits, div}
 use lib.Ieee.Bits.{nanBits-is, nanBits-above}
 use Rattle.signs.proofs.Signs.{no-number}
-use Rattle.stored_answers.proofs.record.float.Statement.{statement}
-use Rattle.stored_answers.proofs.record.float.Tie as tie
+use Rattle.stored_records.proofs.float.Statement.{statement}
+use Rattle.stored_records.proofs.float.Tie as tie
 
 quotient : div binary64 (ofBits binary64 0) (ofBits binary64 0) ≡ nan
 unfolding div ofBits

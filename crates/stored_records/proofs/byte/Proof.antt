@@ -1,9 +1,9 @@
--- `stored_answers::record::byte` meets its contract: a byte is below 256.
+-- `stored_records::byte` meets its contract: a byte is below 256.
 use native.Mathlib.Omega.{arith}
 use mathlib.Core.Path.{refl, sym}
 use lib.ListN.{List·getD-eq-default}
-use Rattle.stored_answers.proofs.record.byte.Statement.{statement}
-use Rattle.stored_answers.proofs.record.byte.Tie as tie
+use Rattle.stored_records.proofs.byte.Statement.{statement}
+use Rattle.stored_records.proofs.byte.Tie as tie
 
 pub byte-spec : {M : Type 1} → statement M
 byte-spec =

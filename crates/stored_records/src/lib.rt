@@ -1,10 +1,19 @@
-// Words of a data file: eight bytes each, the lowest first. What lies past the end counts as 0.
+// A record of a data file: the number of a function, x, y and the answer, in words of eight bytes, the lowest first. What
+// lies past the end counts as 0.
 
 ghost use mathlib.Core.Path.{_≡_};
 ghost use Prim.Native.Nat.{_<_, _^_};
 ghost use lib.ListN.{getD};
 ghost use lib.Ieee.{ofBits, binary64};
-ghost use Rattle.stored_answers.specs.Words.{halfAt, wordAt};
+ghost use Rattle.floats.specs.Operations.{bits};
+ghost use Rattle.stored_records.specs.Words.{halfAt, wordAt, missed};
+
+pub struct Record {
+    pub number: u64,
+    pub x: f64,
+    pub y: f64,
+    pub answer: f64,
+}
 
 // The byte at a place.
 fn byte(s: &[u8], at: usize) -> u64
@@ -27,7 +36,7 @@ fn half(s: &[u8], at: usize) -> u64
 }
 
 // Eight bytes as a number. `at` is narrow, so that the places add up.
-pub fn word(s: &[u8], at: u16) -> u64
+fn word(s: &[u8], at: u16) -> u64
     ensures { λ r. ⌜ r ≡ wordAt (now (s .entry)) at ⌝ }
 {
     let place = at as usize;
@@ -45,8 +54,30 @@ fn float(bits: u64) -> f64
 }
 
 // The float whose bits stand at a place.
-pub fn number(s: &[u8], at: u16) -> f64
+fn number(s: &[u8], at: u16) -> f64
     ensures { λ r. ⌜ r ≡ ofBits binary64 (wordAt (now (s .entry)) at) ⌝ }
 {
     float(word(s, at))
+}
+
+// The four words of a record.
+pub fn read_record(s: &[u8]) -> Record
+    ensures number { λ r. ⌜ r .number ≡ wordAt (now (s .entry)) 0 ⌝ }
+    ensures x { λ r. ⌜ r .x ≡ bits (wordAt (now (s .entry)) 8) ⌝ }
+    ensures y { λ r. ⌜ r .y ≡ bits (wordAt (now (s .entry)) 16) ⌝ }
+    ensures answer { λ r. ⌜ r .answer ≡ bits (wordAt (now (s .entry)) 24) ⌝ }
+{
+    Record {
+        number: word(s, 0),
+        x: number(s, 8),
+        y: number(s, 16),
+        answer: number(s, 24),
+    }
+}
+
+// 1 where a test failed.
+pub fn one_unless(passed: bool) -> u64
+    ensures { λ r. ⌜ r ≡ missed passed ⌝ }
+{
+    if passed { 0 } else { 1 }
 }

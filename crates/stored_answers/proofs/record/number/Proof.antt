@@ -1,6 +1,0 @@
--- `stored_answers::record::number` meets its contract.
-use Rattle.stored_answers.proofs.record.number.Statement.{statement}
-use Rattle.stored_answers.proofs.record.number.Tie as tie
-
-pub number-spec : {M : Type 1} → statement M
-number-spec = tie.close (tie.spec (λ c κs. tt) (λ c κs. tt) (λ c. rw (← c .before .word .ensures) (c .float .ensures)))

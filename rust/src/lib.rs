@@ -13,6 +13,7 @@
 //! - A [`Ladder`] holds its rungs between requests. When a higher order comes it climbs: it works out
 //!   only the rungs that are new. [`State`] is the same over tables that the caller lends.
 //! - [`d_expansion`] is D at large negative orders, [`maclaurin`] the series at 0.
+//! - [`unmirrored`] compares tables of D at x and at −x.
 //!
 //! A call answers, or gives a [`Refusal`] and changes nothing. A ladder answers as single table
 //! calls would, with the same bits or both NaN: of the library this is proved, for every list of
@@ -50,6 +51,7 @@ mod c;
 mod column;
 mod function;
 mod ladder;
+mod mirror;
 mod order;
 mod refusal;
 mod reply;
@@ -60,6 +62,7 @@ pub use c::RawState;
 pub use column::{Column, column};
 pub use function::Function;
 pub use ladder::Ladder;
+pub use mirror::{is_mirrored, unmirrored};
 pub use order::{rung_order, rungs_needed, slots_needed};
 pub use refusal::Refusal;
 pub use reply::{Case, Reply};

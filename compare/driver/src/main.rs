@@ -92,6 +92,7 @@ fn compare(count: usize, seed: u64) -> bool {
         call.compare(&mut tally, count, seed);
     }
     tables::needs::compare(&mut tally, count, seed);
+    tables::mirror::compare(&mut tally, seed);
     right &= tally.finish("tables");
     let mut tally = Tally::of_calls(ladder::CALLS);
     ladder::compare(&mut tally, count, seed);

@@ -1,6 +1,7 @@
 //! The library crate `tables`: the table calls of D and V.
 
 mod edges;
+pub mod mirror;
 pub mod needs;
 mod outcome;
 mod requests;

@@ -14,6 +14,7 @@ pub enum Task {
     Print(String),
     Pair(Call, bool),
     Table(Request, bool),
+    Mirror(Halves, bool),
     Serve(bool),
 }
 
@@ -22,6 +23,13 @@ pub enum Task {
 pub struct Request {
     pub function: Function,
     pub v: f64,
+    pub x: f64,
+}
+
+/// A whole order of D, and an argument whose two signs are asked for.
+#[derive(Clone, Copy, Debug, PartialEq)]
+pub struct Halves {
+    pub order: u32,
     pub x: f64,
 }
 
@@ -72,6 +80,7 @@ fn task(words: &[&str], bits: bool) -> Result<Task, String> {
     };
     match first {
         "table" => Ok(Task::Table(request("table", rest)?, bits)),
+        "mirror" => Ok(Task::Mirror(halves(rest)?, bits)),
         "expansion" => Ok(Task::Pair(expansion(rest)?, bits)),
         "maclaurin" => Ok(Task::Pair(series(rest)?, bits)),
         "serve" if rest.is_empty() => Ok(Task::Serve(bits)),
@@ -82,7 +91,7 @@ fn task(words: &[&str], bits: bool) -> Result<Task, String> {
         "help" => Ok(Task::Print(HELP.to_string())),
         _ if function(first).is_some() => Ok(Task::Pair(Call::Table(request(first, words)?), bits)),
         other => Err(format!(
-            "{} is none of D, V, table, expansion, maclaurin and serve",
+            "{} is none of D, V, table, mirror, expansion, maclaurin and serve",
             quoted(other)
         )),
     }
@@ -98,6 +107,27 @@ fn request(name: &str, words: &[&str]) -> Result<Request, String> {
     };
     let [v, x] = read_numbers(first, ["order", "argument"], rest)?;
     Ok(Request { function, v, x })
+}
+
+/// What `mirror` takes.
+fn halves(words: &[&str]) -> Result<Halves, String> {
+    if let Some(word) = words.first().filter(|word| function(word).is_some()) {
+        return Err(format!(
+            "mirror takes no {}; it is about D alone: write an order and an argument",
+            quoted(word)
+        ));
+    }
+    let [v, x] = read_numbers("mirror", ["order", "argument"], words)?;
+    let is_whole = v.trunc() == v && (0.0..1000.0).contains(&v);
+    if !is_whole {
+        return Err(format!(
+            "the order is not a whole number from 0 to 999: {}; write one such as 3, as D is \
+             mirrored at whole orders from 0 on and orders from 1000 on are refused",
+            quoted(words[0])
+        ));
+    }
+    let order = v as u32;
+    Ok(Halves { order, x })
 }
 
 fn expansion(words: &[&str]) -> Result<Call, String> {

@@ -8,6 +8,9 @@ usage:
   gozhnerim V ORDER ARGUMENT           value and derivative of V
   gozhnerim table D ORDER ARGUMENT     all rungs, one a line: rung, its order,
   gozhnerim table V ORDER ARGUMENT       value, derivative (the top rung has none)
+  gozhnerim mirror ORDER ARGUMENT      both halves of D, at ARGUMENT and its
+                                       negative, and whether they are mirrored;
+                                       ORDER is a whole number from 0 to 999
   gozhnerim expansion ORDER ARGUMENT   D by the expansion for large negative
                                        orders, -2147483648 < ORDER <= -20
   gozhnerim maclaurin A X C0 C1 E      w and w' at X, by the series at 0, where
@@ -34,6 +37,14 @@ Value k is in slot k and derivative k in slot num + k, where num is the whole
 part of the size of the order asked for, plus 3. V at a tiny negative order has
 a value 2 above its top rung. The call leaves all other slots as they were.
 
+mirror: a line for each rung, x being the argument:
+  RUNG, VALUE at x and at -x, DERIVATIVE at x and at -x, and whether the rung is
+  mirrored: mirrored, value-differs, derivative-differs or both-differ
+At -x a value has to be the one at x, or in odd rungs its negative; a derivative
+the one at x, or in even rungs its negative. 0.0 and -0.0 count as equal, and so
+do NaNs. The last line says that every rung is mirrored, or how many are not and
+which is the first. Of the library it is proved that every rung is.
+
 serve: the lines of input, and the one line on standard output that each has:
   D 2.5 1.0                  VALUE DERIVATIVE WRITTEN CASE: so many rungs were
   V -3 0.5                     written; the case is repeat, climb or start-over
@@ -50,11 +61,11 @@ In place of such a line there can be one of these on standard output:
 Lines end in LF or CR LF. Blank lines and lines that begin with # are skipped,
 and so is a byte order mark before the first line.
 
-exit status: 0 all answered; 1 a request was refused, a line was bad, or input
-or output failed; 2 wrong usage
+exit status: 0 all answered; 1 a request was refused, a line was bad, a rung is
+not mirrored, or input or output failed; 2 wrong usage
 
-docs/SUPPORT.md in the repository: refusals, how to reproduce an answer, where
-digits are lost
+docs/SUPPORT.md in the repository: refusals, how to reproduce an answer, halves
+that differ, where digits are lost
 ";
 
 /// The versions of the command and of the library linked into it.

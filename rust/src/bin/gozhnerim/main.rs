@@ -1,4 +1,5 @@
-//! The command `gozhnerim`: answers a request, prints a table, and serves requests line by line.
+//! The command `gozhnerim`: answers a request, prints a table or both halves of D, and serves
+//! requests line by line.
 
 #![forbid(unsafe_code)]
 
@@ -6,6 +7,7 @@ mod arguments;
 mod calls;
 mod help;
 mod lines;
+mod mirror;
 mod numbers;
 mod output;
 mod serve;
@@ -18,7 +20,8 @@ use std::process::ExitCode;
 
 use arguments::Task;
 
-/// Exit status where a request was refused, a line was bad or something failed.
+/// Exit status where a request was refused, a line was bad, a rung is not mirrored or something
+/// failed.
 const NOT_ALL_ANSWERED: u8 = 1;
 /// Exit status for wrong usage.
 const WRONG_USAGE: u8 = 2;
@@ -33,8 +36,7 @@ fn main() -> ExitCode {
         }
     };
     match run(task) {
-        Ok(true) => ExitCode::SUCCESS,
-        Ok(false) => ExitCode::from(NOT_ALL_ANSWERED),
+        Ok(all_answered) => ExitCode::from(status(all_answered)),
         Err(error) => {
             // With a broken pipe, whoever read the output wants no more of it.
             if error.kind() != ErrorKind::BrokenPipe {
@@ -45,7 +47,13 @@ fn main() -> ExitCode {
     }
 }
 
-/// Does the task. Gives whether all was answered, or why standard output cannot be written.
+/// The exit status of a task that was done.
+fn status(all_answered: bool) -> u8 {
+    if all_answered { 0 } else { NOT_ALL_ANSWERED }
+}
+
+/// Does the task. Gives whether all was answered and mirrored, or why standard output cannot be
+/// written.
 fn run(task: Task) -> io::Result<bool> {
     match task {
         Task::Print(text) => {
@@ -56,6 +64,7 @@ fn run(task: Task) -> io::Result<bool> {
         }
         Task::Pair(call, bits) => calls::print(call, bits),
         Task::Table(request, bits) => table::print(request, bits),
+        Task::Mirror(halves, bits) => mirror::print(halves, bits),
         Task::Serve(bits) => serve::standard(bits),
     }
 }

@@ -29,7 +29,7 @@ const SLOTS: [Column; 6] = [
 /// The table of a request, and its pair.
 pub struct Filled {
     pub pair: Pair,
-    slots: Vec<f64>,
+    pub slots: Vec<f64>,
 }
 
 /// Makes the table call.

@@ -27,11 +27,11 @@ extern "C" {
 #endif
 
 /*
- * The version of this header, 0.2.0: 10000 times the first number, 100 times the second, and the third.
+ * The version of this header, 0.2.1: 10000 times the first number, 100 times the second, and the third.
  * gozhnerim_version() gives that of the library linked; a header and a library of different versions do
  * not go together.
  */
-#define GOZHNERIM_VERSION 200
+#define GOZHNERIM_VERSION 201
 uint32_t gozhnerim_version(void);
 
 /*

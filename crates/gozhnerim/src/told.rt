@@ -13,7 +13,7 @@ use gozhnerim_told::order_of;
 pub extern "C" fn gozhnerim_version() -> u32
     ensures { λ r. ⌜ r ≡ version ⌝ }
 {
-    200
+    201
 }
 
 #[no_mangle]

@@ -45,8 +45,12 @@ fn is_times_sign(exponent: usize, a: f64, b: f64) -> bool {
 /// The tables at x and at −x and the pairs answered. Before the calls the slots hold numbers that
 /// are no mirror of each other.
 fn halves(m: usize, x: f64) -> [(Pair, Vec<f64>); 2] {
+    halves_at(m, x, -x)
+}
+
+fn halves_at(m: usize, x: f64, y: f64) -> [(Pair, Vec<f64>); 2] {
     let needed = slots_needed(m as f64).unwrap();
-    [(x, 1.5, needed), (-x, 2.5, needed + m % 3)].map(|(x, before, length)| {
+    [(x, 1.5, needed), (y, 2.5, needed + m % 3)].map(|(x, before, length)| {
         let mut table = vec![before; length];
         let pair = d_table(m as f64, x, &mut table).unwrap();
         (pair, table)
@@ -92,6 +96,21 @@ fn every_rung_and_pair_of_every_whole_order_is_mirrored() {
         }
     }
     assert!(met.infinite > 1000 && met.nan > 1000, "{met:?}");
+}
+
+/// At 0 either zero is the opposite of either: odd values and even derivatives are 0 or NaN there.
+#[test]
+fn the_centre_is_mirrored_with_itself() {
+    for m in 0..1000 {
+        for zero in [0.0, -0.0] {
+            let [(_, table), (_, other)] = halves_at(m, zero, zero);
+            assert_eq!(
+                unmirrored(m as u32, &table, &other),
+                Ok(vec![]),
+                "{m} {zero:?}"
+            );
+        }
+    }
 }
 
 #[test]

@@ -103,13 +103,13 @@ times {s} {a} {a'} c p = subst (λ (z : Bool). MirrorOf z (c ⊗ a) (c ⊗ a')) 
 times-opposite : {s : Bool} {a a' y y' : Float} → MirrorOf true y y' → MirrorOf s a a' → MirrorOf (not s) (y ⊗ a) (y' ⊗ a')
 times-opposite {s} {a} {a'} {y} {y'} q p = subst (λ (z : Bool). MirrorOf z (y ⊗ a) (y' ⊗ a')) (unlike-true s) (product q p)
 
--- with x, with 0.5·x and with −0.5·x
-pub times-argument : {s : Bool} {a a' : Float} (x : Float) → MirrorOf s a a' → MirrorOf (not s) (x ⊗ a) (neg x ⊗ a')
-times-argument x p = times-opposite (opposite x) p
+-- with an argument, with its half and with minus its half
+module _ {x y : Float} (opposite : MirrorOf true x y) where
+  pub times-argument : {s : Bool} {a a' : Float} → MirrorOf s a a' → MirrorOf (not s) (x ⊗ a) (y ⊗ a')
+  times-argument p = times-opposite opposite p
 
-pub times-half : {s : Bool} {a a' : Float} (x : Float) → MirrorOf s a a' → MirrorOf (not s) (f½ ⊗ x ⊗ a) (f½ ⊗ neg x ⊗ a')
-times-half x p = times-opposite (times f½ (opposite x)) p
+  pub times-half : {s : Bool} {a a' : Float} → MirrorOf s a a' → MirrorOf (not s) (f½ ⊗ x ⊗ a) (f½ ⊗ y ⊗ a')
+  times-half p = times-opposite (times f½ opposite) p
 
-pub times-minus-half : {s : Bool} {a a' : Float} (x : Float) → MirrorOf s a a'
-    → MirrorOf (not s) (neg f½ ⊗ x ⊗ a) (neg f½ ⊗ neg x ⊗ a')
-times-minus-half x p = times-opposite (times (neg f½) (opposite x)) p
+  pub times-minus-half : {s : Bool} {a a' : Float} → MirrorOf s a a' → MirrorOf (not s) (neg f½ ⊗ x ⊗ a) (neg f½ ⊗ y ⊗ a')
+  times-minus-half p = times-opposite (times (neg f½) opposite) p

@@ -3,3 +3,4 @@ pub mod Views
 pub mod Products
 pub mod Sums
 pub mod Laws
+pub mod Opposites

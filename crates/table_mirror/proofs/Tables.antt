@@ -1,17 +1,22 @@
 -- The mirror check on the slots of the table call and on its answer.
-use mathlib.Core.Path.{_≡_, refl, ap, _∙_}
+use mathlib.Core.Path.{_≡_, refl, sym, ap, _∙_}
+use mathlib.Core.Logic.{_⊎_}
 use mathlib.Core.List.{List}
 use mathlib.Core.Option.{some}
-use mathlib.Core.Bool.{true, false}
-use Prim.Native.Nat.{ℕ, suc, _+_, _-_, _*_, _≤_, _<_}
+use mathlib.Core.Bool.{Bool, true, false, not, true≢false}
+use Prim.Native.Nat.{ℕ, suc, _+_, _-_, _*_, _%_, _≤_}
 use native.Mathlib.Numerals.{add-one}
 use native.Mathlib.Omega.{arith}
-use lib.ListN.{length}
-use lib.Ieee.{Float, nan, inf, fin, neg, eq, isNan, ofBits}
+use lib.Dec.{T, eqb}
+use lib.ListN.{length, getD}
+use lib.Ieee.{Float, nan, inf, fin, binary64, neg, eq, ne, fits, isNan, ofBits}
+use lib.Ieee.Fits.{neg-fits}
 use Rattle.floats.specs.Operations.{f0}
 use Rattle.floats.specs.declared.Function.the-variants.{D}
-use Rattle.mirror_images.specs.Images.{MirrorOf, odd}
+use Rattle.mirror_images.specs.Images.{odd}
 use Rattle.mirror_images.proofs.Laws.{in-words}
+use Rattle.mirror_images.proofs.Opposites.{opposites}
+use Rattle.signs.proofs.Signs.{nan-test}
 use Rattle.order.specs.Order.{shifted, topRung}
 use Rattle.order.specs.Whole.{WholeOrder, limits, WholeParts}
 use Rattle.order.proofs.Whole.{whole-order, whole-parts}
@@ -25,7 +30,7 @@ use Rattle.tables.specs.Tables.{valueOf, derivativeOf, tableAfter, answer}
 use Rattle.tables.specs.Slots.{Slots}
 use Rattle.tables.proofs.Calls.{not-refused-long, value-is, derivative-is}
 use Rattle.tables.proofs.Slots.{slots}
-use Rattle.table_mirror.specs.Mirror.{TablesMirrored, Mirrored, MirrorCheck}
+use Rattle.table_mirror.specs.Mirror.{Opposite, TablesMirrored, Mirrored, MirrorCheck}
 use Rattle.table_mirror.proofs.Rungs.{value-image, derivative-image}
 
 neg-number : (x : Float) → isNan x ≡ false → isNan (neg x) ≡ false
@@ -33,6 +38,15 @@ unfolding isNan neg
 neg-number nan h = h
 neg-number (inf s) h = refl
 neg-number (fin s m e) h = refl
+
+-- a number is equal to itself
+number-itself : (x : Float) → isNan x ≡ false → eq x x ≡ true
+unfolding ne
+number-itself x h = not-false (sym (sym h ∙ sym (nan-test x)))
+  where
+    not-false : {b : Bool} → not b ≡ false → b ≡ true
+    not-false {b = true} e = refl
+    not-false {b = false} e = absurd (true≢false e)
 
 zero-is-zero : eq f0 f0 ≡ true
 unfolding eq ofBits
@@ -55,55 +69,95 @@ module _ (v : Float) (m : ℕ) (parts : WholeParts v m) where
       (derivative-at (rungs x) (shifted v) (topRung v) k
       ∙ rw (value-forward (rungs x) (shifted v) (topRung v) (D-forward x (shifted v)), add-one k))
 
-  value-mirrored : (x : Float) (k : ℕ) → MirrorOf (odd k) (valueOf D v x k) (valueOf D v (neg x) k)
-  value-mirrored x k = rw (values-are x, values-are (neg x)) (value-image f0 zero-is-zero x k)
+  value-at : (x : Float) (k : ℕ) → valueOf D v x k ≡ rung (rungs x) k
+  value-at x k = ap (λ (g : ℕ → Float). g k) (values-are x)
 
-  derivative-mirrored : (x : Float) (k : ℕ) → MirrorOf (odd (k + 1)) (derivativeOf D v x k) (derivativeOf D v (neg x) k)
-  derivative-mirrored x k = rw (add-one k, derivatives-are x k, derivatives-are (neg x) k) (derivative-image f0 zero-is-zero x k)
+-- ---- a table call at a whole order: which slots have its rungs, and what it answers
 
--- ---- the table calls
-
-module _ (v x : Float) (m : ℕ) (l r : List Float) (order : WholeOrder v m) (number : isNan x ≡ false)
-    (long : 2 * (m + 3) ≤ length l) (long' : 2 * (m + 3) ≤ length r) where
+module _ (m : ℕ) (v x : Float) (l : List Float) (order : WholeOrder v m) (number : isNan x ≡ false) (long : 2 * (m + 3) ≤ length l) where
   parts : WholeParts v m
   parts = whole-parts v m order
 
-  called : (y : Float) (t : List Float) → isNan y ≡ false → 2 * (m + 3) ≤ length t → Slots D v y t
-  called y t a b = slots D v y t (order .fit) (not-refused-long v y (length t) (parts .number) a (parts .small) (rw (parts .columns) b))
+  called : Slots D v x l
+  called = slots D v x l (order .fit) (not-refused-long v x (length l) (parts .number) number (parts .small) (rw (parts .columns) long))
 
-  here : Slots D v x l
-  here = called x l number long
+  value-slot : (k : ℕ) → k ≤ m + 1 → getD (tableAfter D v x l) k nan ≡ rung (record { function = D; below = false; x = x; f = f0 }) k
+  unfolding slot
+  value-slot k h = called .values k (rw (parts .top) h) ∙ value-at v m parts x k
 
-  there : Slots D v (neg x) r
-  there = called (neg x) r (neg-number x number) long'
+  derivative-slot : (k : ℕ) → k ≤ m
+      → getD (tableAfter D v x l) (m + 3 + k) nan
+      ≡ (let at = rung (record { function = D; below = false; x = x; f = f0 }) in derivative D false x f0 k (at k) (at (suc k)))
+  unfolding slot
+  derivative-slot k h =
+      rw (← parts .columns) (called .derivatives k (rw (parts .top) (omega arith)) ∙ derivatives-are v m parts x k)
 
-  tables : TablesMirrored m (tableAfter D v x l) (tableAfter D v (neg x) r)
+  answered-at : answer D v x (length l) ≡ some (getD (tableAfter D v x l) m nan, getD (tableAfter D v x l) (m + 3 + m) nan)
+  unfolding slot
+  answered-at =
+      let e : topRung v - 1 ≡ m = rw (parts .top) (omega arith) in
+      called .answered ∙ rw (e, parts .columns)
+
+-- ---- two of them
+
+equal-numbers : (x y : Float) → eq y (neg x) ≡ true → (isNan x ≡ false) × (isNan y ≡ false)
+unfolding eq neg isNan
+equal-numbers nan nan e = absurd (true≢false (sym e))
+equal-numbers nan (inf t) e = absurd (true≢false (sym e))
+equal-numbers nan (fin t n c) e = absurd (true≢false (sym e))
+equal-numbers (inf s) nan e = absurd (true≢false (sym e))
+equal-numbers (fin s m d) nan e = absurd (true≢false (sym e))
+equal-numbers (inf s) (inf t) e = (refl, refl)
+equal-numbers (inf s) (fin t n c) e = (refl, refl)
+equal-numbers (fin s m d) (inf t) e = (refl, refl)
+equal-numbers (fin s m d) (fin t n c) e = (refl, refl)
+
+module _ (m : ℕ) (v x : Float) (l : List Float) (w y : Float) (r : List Float) (here : WholeOrder v m) (there : WholeOrder w m) (opposite : Opposite x y)
+    (long : 2 * (m + 3) ≤ length l) (long' : 2 * (m + 3) ≤ length r) where
+  numbers : (isNan x ≡ false) × (isNan y ≡ false)
+  numbers = equal-numbers x y (opposite .same)
+
+  turned : (y ≡ neg x) ⊎ ((y ≡ x) × T (eq x f0))
+  turned = opposites x y (opposite .fit) (opposite .fit-there) (opposite .same)
+
+  tables : TablesMirrored m (tableAfter D v x l) (tableAfter D w y r)
   tables = record {
     values =
-        λ k h. let b : k ≤ topRung v = rw (parts .top) (omega arith) in rw (here .values k b, there .values k b) (value-mirrored v m parts x k);
+        λ k h. rw (value-slot m v x l here (numbers .0) long k (omega arith), value-slot m w y r there (numbers .1) long' k (omega arith))
+        (value-image f0 zero-is-zero x y turned k);
     derivatives =
-        λ k h. let b : k < topRung v = rw (parts .top) (omega arith) in
-        rw (← parts .columns, here .derivatives k b, there .derivatives k b) (derivative-mirrored v m parts x k);
+        λ k h. rw (derivative-slot m v x l here (numbers .0) long k (omega arith), derivative-slot m w y r there (numbers .1) long' k (omega arith))
+        (derivative-image f0 zero-is-zero x y turned k);
   }
 
-  answered-at : (y : Float) (t : List Float) → Slots D v y t
-      → answer D v y (length t) ≡ some (slot (tableAfter D v y t) m, slot (tableAfter D v y t) (m + 3 + m))
-  answered-at y t s =
-      let e : topRung v - 1 ≡ m = rw (parts .top) (omega arith) in
-      s .answered ∙ rw (e, parts .columns)
-
-  mirrored : Mirrored v x m l r
+  mirrored : Mirrored m v x l w y r
   mirrored = record {
     tables = tables;
     answers = record {
-      pair = (slot (tableAfter D v x l) m, slot (tableAfter D v x l) (m + 3 + m));
-      image = (slot (tableAfter D v (neg x) r) m, slot (tableAfter D v (neg x) r) (m + 3 + m));
-      answered = answered-at x l here;
-      answered-there = answered-at (neg x) r there;
+      pair = (getD (tableAfter D v x l) m nan, getD (tableAfter D v x l) (m + 3 + m) nan);
+      image = (getD (tableAfter D w y r) m nan, getD (tableAfter D w y r) (m + 3 + m) nan);
+      answered = answered-at m v x l here (numbers .0) long;
+      answered-there = answered-at m w y r there (numbers .1) long';
       value = tables .values m (omega arith);
       derivative = tables .derivatives m (omega arith);
     };
   }
 
+-- ---- the words of the statement
+
+opposite-arguments : (x : Float) → T (fits binary64 x) → isNan x ≡ false → Opposite x (neg x)
+opposite-arguments x p h = record { same = number-itself (neg x) (neg-number x h); fit = p; fit-there = neg-fits binary64 x p }
+
+odd-is : (k : ℕ) → odd k ≡ eqb (k % 2) 1
+unfolding odd
+odd-is k = refl
+
 pub mirror-check : MirrorCheck
-mirror-check = record { mirrored = mirrored; orders = whole-order; minus-zero = limits .1; images = in-words }
+mirror-check = record {
+  mirrored = mirrored;
+  orders = whole-order;
+  minus-zero = limits .1;
+  arguments = opposite-arguments;
+  images = in-words;
+  signs = odd-is;
+}

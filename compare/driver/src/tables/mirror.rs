@@ -30,6 +30,8 @@ type TableCall = fn(f64, f64, &mut [f64]) -> Answer;
 struct Request {
     v: f64,
     x: f64,
+    /// Order and argument at −x. A zero may have either sign.
+    other: (f64, f64),
     lengths: [usize; 2],
     /// Where in the junk the slots of each begin. The two places differ.
     places: [usize; 2],
@@ -99,11 +101,15 @@ impl Request {
     /// With lengths and places that follow from the bits.
     fn new(v: f64, x: f64, bits: u64) -> Self {
         let length = |bits: u64| needed(v) + (bits % (MORE_SLOTS + 1)) as usize;
+        let turned = |number: f64, turn: bool| if turn { -number } else { number };
+        let other_order = turned(v, v == 0.0 && bits >> 48 & 1 == 1);
+        let other_argument = turned(x, x != 0.0 || bits >> 49 & 1 == 1);
         let first = bits >> 16 & (PLACES - 1);
         let second = first + 1 + (bits >> 32 & (PLACES - 1));
         Request {
             v,
             x,
+            other: (other_order, other_argument),
             lengths: [length(bits), length(bits >> 8)],
             places: [first as usize, second as usize],
         }
@@ -153,13 +159,13 @@ impl Comparison {
 
     /// The calls at x and at −x.
     fn halves(&self, request: &Request, table_call: TableCall) -> [Half; 2] {
-        let half = |(x, i): (f64, usize)| {
+        let half = |((v, x), i): ((f64, f64), usize)| {
             let found = &self.junk[request.places[i]..][..request.lengths[i]];
             let mut table = found.to_vec();
-            let answer = table_call(request.v, x, &mut table);
+            let answer = table_call(v, x, &mut table);
             Half { answer, table }
         };
-        [(request.x, 0), (-request.x, 1)].map(half)
+        [((request.v, request.x), 0), (request.other, 1)].map(half)
     }
 
     /// Prints the line, and how often overflow was met.

@@ -166,14 +166,19 @@ fn the_requests_show_wrong_calls() {
 fn every_argument_stands_with_every_order_and_other_tables() {
     let (mut orders, mut many) = (HashSet::new(), 0);
     let (mut lengths, mut different) = (HashSet::new(), HashSet::new());
+    let (mut zeros, mut centres) = (HashSet::new(), HashSet::new());
     for request in requests(1) {
         let Request {
             v,
             x,
+            other: (w, y),
             lengths: [first, second],
             places,
         } = request;
         assert!(v.trunc() == v && (0.0..1000.0).contains(&v) && !x.is_nan());
+        assert!(w == v && y == -x);
+        zeros.extend((v == 0.0).then(|| [v, w].map(f64::is_sign_negative)));
+        centres.extend((x == 0.0).then(|| [x, y].map(f64::is_sign_negative)));
         orders.insert(v.to_bits());
         different.insert(x.to_bits());
         lengths.insert([first, second].map(|length| length - needed(v)));
@@ -181,6 +186,7 @@ fn every_argument_stands_with_every_order_and_other_tables() {
         many += 1;
     }
     assert_eq!(orders.len(), 1001);
+    assert_eq!((zeros.len(), centres.len()), (4, 4));
     assert!(different.len() > 2000 && lengths.len() == 64);
     assert_eq!(many, 1001 * arguments(1).len());
 }

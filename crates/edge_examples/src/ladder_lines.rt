@@ -3,8 +3,8 @@
 
 use crate::printing;
 use floats::Function;
-use ladder::Ladder;
 use ladder::Written;
+use ladder_states::Ladder;
 
 // One request; gives the next ladder.
 fn line(
@@ -16,7 +16,7 @@ fn line(
     values: &mut [f64],
     derivatives: &mut [f64],
 ) -> Ladder {
-    let reply = held.request(function, v, x, values, derivatives);
+    let reply = ladder::request(held, function, v, x, values, derivatives);
     let state = reply.state;
     let answer = reply.answer;
     let written = reply.written;
@@ -38,7 +38,7 @@ pub fn examples() {
     let mut derivatives = [-2.5; 5];
     let a = line(
         b"P11 D 2 0",
-        Ladder::empty(),
+        ladder_states::empty(),
         Function::D,
         2.0,
         0.0,
@@ -80,7 +80,7 @@ pub fn starts() {
     let mut derivatives = [-2.5; 5];
     let a = line(
         b"V -2^-60 1",
-        Ladder::empty(),
+        ladder_states::empty(),
         Function::V,
         -8.673617379884035e-19,
         1.0,
@@ -104,7 +104,7 @@ pub fn climbs() {
     let mut derivatives = [-2.5; 5];
     let a = line(
         b"V -1 1",
-        Ladder::empty(),
+        ladder_states::empty(),
         Function::V,
         -1.0,
         1.0,

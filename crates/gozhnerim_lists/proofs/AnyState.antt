@@ -15,8 +15,10 @@ use Rattle.slots.specs.Slots.{filled}
 use Rattle.ladder_machine.specs.Machine.{Request, request, Machine, Verdict, refuses, repeats, climbs, startsOver, bitsOf, sameRungs, verdict, next}
 use Rattle.ladder_machine.specs.Held.{countsEmpty, machineOf}
 use Rattle.ladder_machine.proofs.Laws.{Means, verdict-means, same-record}
-use Rattle.ladder.specs.declared.Ladder.{Ladder}
-use Rattle.ladder.specs.Ladder.{stateOf, heldIn, Given, requested, Outcome}
+use Rattle.ladder_states.specs.declared.Ladder.{Ladder}
+use Rattle.ladder_states.specs.States.{stateOf, heldIn}
+use Rattle.ladder_states.proofs.Laws.{nothing-held}
+use Rattle.ladder.specs.Ladder.{Given, requested, Outcome}
 use Rattle.ladder_lists.specs.Demand3.{ask, fed, says, Number, Long, tabledValue, tabledDerivative, heldAfter, JustWritten, StateRight}
 use Rattle.ladder_lists.proofs.Held.{table-answer}
 use Rattle.ladder_lists.proofs.Turns.{known-request}
@@ -26,7 +28,7 @@ use Rattle.gozhnerim_structs.specs.Answers.{pairOrNan}
 use Rattle.gozhnerim_structs.specs.Ladders.{functionOf, ladderBy, ladderIn, ladderOut, handedBack, countOf, replyOf}
 use Rattle.gozhnerim_lists.specs.Requests.{requestedInC}
 use Rattle.gozhnerim_lists.specs.Lists.{stateInC, answeredInC, begunWith, saysInC, ClimbedInC, StateRightInC}
-use Rattle.gozhnerim_lists.proofs.Lists.{nothing-held, same-number, begun-is, handed-on}
+use Rattle.gozhnerim_lists.proofs.Lists.{same-number, begun-is, handed-on}
 
 same-written : (g g' : ℕ → Float) (a n : ℕ) (l l' : List Float) → ((k : ℕ) → g k ≡ g' k) → JustWritten g a n l l' → JustWritten g' a n l l'
 same-written g g' a n l l' e j = record { same-length = j .same-length; slots = λ k h b. j .slots k h b ∙ e k; others = j .others }

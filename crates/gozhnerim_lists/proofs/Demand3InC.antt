@@ -4,8 +4,8 @@ use mathlib.Core.List.{List}
 use lib.Ieee.{Float}
 use Rattle.ladder_machine.specs.Machine.{Request, empty}
 use Rattle.ladder_machine.specs.Held.{machineOf}
-use Rattle.ladder.specs.declared.Ladder.{Ladder}
-use Rattle.ladder.specs.Ladder.{heldIn}
+use Rattle.ladder_states.specs.declared.Ladder.{Ladder}
+use Rattle.ladder_states.specs.States.{heldIn}
 use Rattle.ladder_lists.specs.Demand3.{Call, Numbers, Long, ListRight}
 use Rattle.ladder_lists.proofs.Lists.{demand3}
 use Rattle.gozhnerim_structs.specs.declared.GozhnerimLadder.{GozhnerimLadder}

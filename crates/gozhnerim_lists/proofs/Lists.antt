@@ -11,10 +11,11 @@ use Rattle.floats.specs.declared.Function.{Function}
 use Rattle.floats.specs.declared.Function.the-variants.{D, «V»}
 use Rattle.ladder_machine.specs.Machine.{Request, Inputs, request, asked, Machine, empty, Verdict, refuses, repeats, climbs, startsOver, refusedBy, effect, verdict, next, verdicts}
 use Rattle.ladder_machine.specs.Held.{countsEmpty, machineOf}
-use Rattle.ladder_machine.proofs.Laws.{machine-empty, no-rung-held, empty-machine, Accepts, accepts, refuses-count, repeats-count, climbs-count, starts-count, no-verdicts, more-verdicts}
-use Rattle.ladder.specs.declared.Ladder.{Ladder}
-use Rattle.ladder.specs.Ladder.{stateOf, heldIn, emptyState, Outcome, requested}
-use Rattle.ladder.specs.Ladder.Open.{emptyState-is}
+use Rattle.ladder_machine.proofs.Laws.{machine-empty, empty-machine, Accepts, accepts, refuses-count, repeats-count, climbs-count, starts-count, no-verdicts, more-verdicts}
+use Rattle.ladder_states.specs.declared.Ladder.{Ladder}
+use Rattle.ladder_states.specs.States.{stateOf, heldIn, emptyState}
+use Rattle.ladder_states.proofs.Laws.{nothing-held}
+use Rattle.ladder.specs.Ladder.{Outcome, requested}
 use Rattle.ladder.proofs.Refusals.{refused-state}
 use Rattle.ladder_lists.specs.Demand3.{Call, ask, fed, calledBy, turns, left, Number, Numbers, Long, heldAfter, stateDue, pairDue, due, dueAll, lastState, Lent, lent}
 use Rattle.ladder_lists.proofs.Held.{table-answer}
@@ -34,10 +35,6 @@ same-number D = refl
 same-number «V» = refl
 
 -- the machine begun with a state in C is the one begun with the ladder that it is
-pub nothing-held : countsEmpty (heldIn emptyState) ≡ true
-unfolding heldIn stateOf
-nothing-held = no-rung-held (heldIn emptyState) (ap (λ (s : Ladder). s .n) emptyState-is)
-
 begun-by : (o : Option Function) (held : GozhnerimLadder) → begunBy o held ≡ machineOf (heldIn (ladderBy o held))
 unfolding begunBy ladderBy heldIn stateOf
 begun-by none held = sym (machine-empty (heldIn emptyState) nothing-held)

@@ -32,6 +32,6 @@ pub fn request_in_c(
 {
     reply_of(
         held,
-        ladder_in(held).request(function, v, x, values, derivatives),
+        ladder::request(ladder_in(held), function, v, x, values, derivatives),
     )
 }

@@ -8,8 +8,9 @@ use Prim.Native.Nat.{ℕ}
 use lib.Ieee.{Float, nan}
 use Rattle.floats.specs.declared.Function.{Function}
 use Rattle.floats.specs.declared.Function.the-variants.{D, «V»}
-use Rattle.ladder.specs.declared.Ladder.{Ladder}
-use Rattle.ladder.specs.Ladder.{stateOf, emptyState, Given}
+use Rattle.ladder_states.specs.declared.Ladder.{Ladder}
+use Rattle.ladder_states.specs.States.{stateOf, emptyState}
+use Rattle.ladder.specs.Ladder.{Given}
 use Rattle.gozhnerim_structs.specs.declared.GozhnerimAnswer.{GozhnerimAnswer}
 use Rattle.gozhnerim_structs.specs.declared.GozhnerimLadder.{GozhnerimLadder}
 use Rattle.gozhnerim_structs.specs.declared.GozhnerimReply.{GozhnerimReply}

@@ -6,8 +6,8 @@ use Prim.Native.Nat.{ℕ}
 use lib.Dec.{eqb}
 use Rattle.floats.specs.declared.Function.{Function}
 use Rattle.floats.specs.declared.Function.the-variants.{D, «V»}
-use Rattle.ladder.specs.declared.Ladder.{Ladder}
-use Rattle.ladder.specs.Ladder.{stateOf}
+use Rattle.ladder_states.specs.declared.Ladder.{Ladder}
+use Rattle.ladder_states.specs.States.{stateOf}
 use Rattle.gozhnerim_structs.specs.declared.GozhnerimLadder.{GozhnerimLadder}
 use Rattle.gozhnerim_structs.specs.Ladders.{functionOf, ladderBy, ladderIn, numberOf, ladderOut, handedBack}
 

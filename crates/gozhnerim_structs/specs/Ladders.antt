@@ -7,8 +7,9 @@ use lib.Dec.{eqb}
 use Rattle.floats.specs.declared.Function.{Function}
 use Rattle.floats.specs.declared.Function.the-variants.{D, «V»}
 use Rattle.rungs.specs.declared.Sequence.{Sequence}
-use Rattle.ladder.specs.declared.Ladder.{Ladder}
-use Rattle.ladder.specs.Ladder.{stateOf, emptyState, Given}
+use Rattle.ladder_states.specs.declared.Ladder.{Ladder}
+use Rattle.ladder_states.specs.States.{stateOf, emptyState}
+use Rattle.ladder.specs.Ladder.{Given}
 use Rattle.gozhnerim_structs.specs.declared.GozhnerimLadder.{GozhnerimLadder}
 use Rattle.gozhnerim_structs.specs.declared.GozhnerimReply.{GozhnerimReply}
 use Rattle.gozhnerim_structs.specs.Answers.{pairOrNan}

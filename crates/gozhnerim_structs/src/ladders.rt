@@ -9,10 +9,10 @@ use crate::GozhnerimLadder;
 use crate::GozhnerimReply;
 use crate::answers::flat;
 use floats::Function;
-use ladder::Ladder;
 use ladder::Reply;
 use ladder::Written;
-use ladder::state_of;
+use ladder_states::Ladder;
+use ladder_states::state_of;
 use rungs::Sequence;
 
 // The ladder of a state that holds a function.
@@ -38,7 +38,7 @@ pub fn ladder_in(s: GozhnerimLadder) -> Ladder
     if s.function == 2 {
         return holding(s, Function::V);
     }
-    Ladder::empty()
+    ladder_states::empty()
 }
 
 fn number_of(function: Function) -> u32

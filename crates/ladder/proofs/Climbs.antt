@@ -9,8 +9,9 @@ use Rattle.rungs.specs.declared.Sequence.{Sequence}
 use Rattle.slots.specs.Slots.{filled}
 use Rattle.ladder_climb.specs.Climb.{roomAbove, topValues, climbedValues, climbedDerivatives}
 use Rattle.ladder_climb.proofs.Climbs.{carried-low, carried-high, climb-done}
-use Rattle.ladder.specs.declared.Ladder.{Ladder}
-use Rattle.ladder.specs.Ladder.{stateOf, sequenceIn, valueFrom, derivativeFrom, climbedTo}
+use Rattle.ladder_states.specs.declared.Ladder.{Ladder}
+use Rattle.ladder_states.specs.States.{stateOf, sequenceIn}
+use Rattle.ladder.specs.Ladder.{valueFrom, derivativeFrom, climbedTo}
 use Rattle.ladder.specs.Ladder.Open.{climbedTo-is}
 
 module _ (s : Ladder) where

@@ -14,8 +14,9 @@ use Rattle.tables.specs.Tables.{valueOf, derivativeOf}
 use Rattle.ladder_machine.specs.Machine.{Request, asked, refusal, Verdict, refuses, repeats, climbs, startsOver, refusedBy, Effect, stays, goesOn, startsAt, effect, verdict}
 use Rattle.ladder_machine.specs.Held.{machineOf}
 use Rattle.ladder_machine.proofs.Laws.{not-empty, Means, verdict-means, climb-parts, repeats-count, climbs-count, starts-count}
-use Rattle.ladder.specs.declared.Ladder.{Ladder}
-use Rattle.ladder.specs.Ladder.{stateOf, heldIn, stateFor, valueFrom, derivativeFrom, climbedTo, Given, pairThen, givenOn, answered, outcome, valuesThen, derivativesThen, outcomeBy, requested}
+use Rattle.ladder_states.specs.declared.Ladder.{Ladder}
+use Rattle.ladder_states.specs.States.{stateOf, heldIn}
+use Rattle.ladder.specs.Ladder.{stateFor, valueFrom, derivativeFrom, climbedTo, Given, pairThen, givenOn, answered, outcome, valuesThen, derivativesThen, outcomeBy, requested}
 use Rattle.ladder.specs.Ladder.Open.{stateFor-is, climbedTo-is, state-stays, state-goes-on, state-starts, values-stay, values-go-on, values-start, derivatives-stay, derivatives-go-on, derivatives-start, outcome-by, requested-is}
 use Rattle.ladder.proofs.Climbs.{climbed-here}
 use Rattle.ladder.proofs.Starts.{order-room}

@@ -7,8 +7,9 @@ use lib.ListN.{length}
 use lib.Ieee.{Float}
 use Rattle.ladder_machine.specs.Machine.{Request, asked, Verdict, refuses, repeats, climbs, startsOver, refusedBy, effect, verdict}
 use Rattle.ladder_machine.specs.Held.{machineOf}
-use Rattle.ladder.specs.declared.Ladder.{Ladder}
-use Rattle.ladder.specs.Ladder.{heldIn, givenOn, stateThen, requested}
+use Rattle.ladder_states.specs.declared.Ladder.{Ladder}
+use Rattle.ladder_states.specs.States.{heldIn}
+use Rattle.ladder.specs.Ladder.{givenOn, stateThen, requested}
 use Rattle.ladder.specs.Ladder.Open.{state-stays, outcome-by, requested-is}
 
 module _ (s : Ladder) (q : Request) (l d : List Float) where

@@ -19,7 +19,8 @@ use Rattle.tables.specs.Tables.{sequenceOf, valueOf, derivativeOf}
 use Rattle.tables.proofs.Calls.{value-is, derivative-is}
 use Rattle.ladder_machine.specs.Machine.{Request, refusal}
 use Rattle.ladder_machine.proofs.Laws.{accepted}
-use Rattle.ladder.specs.Ladder.{stateOf, stateFor}
+use Rattle.ladder_states.specs.States.{stateOf}
+use Rattle.ladder.specs.Ladder.{stateFor}
 use Rattle.ladder.specs.Ladder.Open.{stateFor-is}
 
 module _ (q : Request) (values derivatives : ℕ) (fit : T (fits binary64 (q .v))) (ok : refusal q values derivatives ≡ 0) where

@@ -1,47 +1,26 @@
--- The ladder (01, "The ladder"): its state, and what a request answers, hands back and leaves of both tables, for every
--- state, request and table content.
+-- The ladder (01, "The ladder"): what a request answers, hands back and leaves of both tables, for every state, request
+-- and table content.
 use mathlib.Core.List.{List}
 use mathlib.Core.Option.{Option, some, none}
 use Prim.Native.Nat.{ℕ, _+_, _-_}
-use mathlib.Core.Bool.{false}
 use lib.ListN.{length}
 use lib.Ieee.{Float}
-use Rattle.floats.specs.Operations.{f0}
-use Rattle.floats.specs.declared.Function.the-variants.{D}
 use Rattle.derivatives.specs.Derivatives.{derivative}
-use Rattle.rungs.specs.declared.Sequence.{Sequence}
 use Rattle.slots.specs.Slots.{filled}
 use Rattle.answer.specs.Answer.{refusalOf, pairOf}
 use Rattle.tables.specs.Tables.{sequenceOf, valueOf, derivativeOf}
-use Rattle.ladder_machine.specs.declared.Held.{Held}
 use Rattle.ladder_machine.specs.Machine.{Request, asked, Verdict, refusedBy, written, Effect, stays, goesOn, startsAt}
 use Rattle.ladder_machine.specs.Machine.{effect, verdict}
 use Rattle.ladder_machine.specs.Held.{machineOf}
 use Rattle.ladder_climb.specs.Climb.{carriedValue, carriedDerivative}
-use Rattle.ladder.specs.declared.Ladder.{Ladder}
+use Rattle.ladder_states.specs.declared.Ladder.{Ladder}
+use Rattle.ladder_states.specs.States.{stateOf, sequenceIn, heldIn}
 use Rattle.ladder.specs.declared.Written.{Written}
 use Rattle.ladder.specs.declared.Written.the-variants.{Count, Nothing}
 use Rattle.ladder.specs.declared.Reply.{Reply}
 pub mod Open
 
 -- ---- the state
-
--- a state by its rungs: which they are, n, and the values of rungs n − 1 and n. Every state is made here.
-unfoldable pub stateOf : Sequence → ℕ → Float → Float → Ladder
-stateOf r n low high =
-    record { function = r .function; below = r .below; x = r .x; f = r .f; n = n; low = low; high = high }
-
--- which rungs a state holds
-unfoldable pub sequenceIn : Ladder → Sequence
-sequenceIn s = record { function = s .function; below = s .below; x = s .x; f = s .f }
-
--- a state that holds nothing: every field is 0
-pub emptyState : Ladder
-emptyState = stateOf (record { function = D; below = false; x = f0; f = f0 }) 0 f0 f0
-
--- the fields of a state, its two values left out
-unfoldable pub heldIn : Ladder → Held
-heldIn s = record { function = s .function; below = s .below; x = s .x; f = s .f; n = s .n }
 
 -- the state that holds rungs 0 to n of a request, with values n − 1 and n of the table call
 pub stateFor : Request → ℕ → Ladder

@@ -8,8 +8,8 @@ ghost use Rattle.floats.specs.Operations.{decimal, f0};
 ghost use Rattle.answer.specs.Answer.{pairOf};
 ghost use Rattle.ladder.specs.Ladder.{writtenOf};
 use floats::Function;
-use ladder::Ladder;
 use ladder::Written;
+use ladder::request;
 use tables::Answer;
 
 // What comes of P11: the four written counts, the answer at order 4, and value 4 and derivative 4 as the tables hold
@@ -35,14 +35,32 @@ pub fn p11() -> FourRequests
 {
     let mut values = [0.0; 6];
     let mut derivatives = [0.0; 5];
-    let ladder = Ladder::empty();
-    let a = ladder.request(Function::D, 2.0, 0.0, &mut values, &mut derivatives);
-    let b = a.state
-        .request(Function::D, 4.0, 0.0, &mut values, &mut derivatives);
-    let c = b.state
-        .request(Function::D, 4.0, 0.0, &mut values, &mut derivatives);
-    let d = c.state
-        .request(Function::D, 2.0, 0.0, &mut values, &mut derivatives);
+    let ladder = ladder_states::empty();
+    let a = request(ladder, Function::D, 2.0, 0.0, &mut values, &mut derivatives);
+    let b = request(
+        a.state,
+        Function::D,
+        4.0,
+        0.0,
+        &mut values,
+        &mut derivatives,
+    );
+    let c = request(
+        b.state,
+        Function::D,
+        4.0,
+        0.0,
+        &mut values,
+        &mut derivatives,
+    );
+    let d = request(
+        c.state,
+        Function::D,
+        2.0,
+        0.0,
+        &mut values,
+        &mut derivatives,
+    );
     let first = a.written;
     let second = b.written;
     let third = c.written;

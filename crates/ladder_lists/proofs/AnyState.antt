@@ -18,8 +18,9 @@ use Rattle.ladder_machine.specs.Held.{countsEmpty, machineOf}
 use Rattle.ladder_machine.proofs.Laws.{accepted, not-empty, not-counted-empty, Means, verdict-means, climb-parts, Does, effect-means, refuses-count, repeats-count, climbs-count, starts-count, next-by, held-stays, held-goes-on, held-starts, next-state}
 use Rattle.ladder_climb.specs.Climb.Open.{carriedDerivative-is}
 use Rattle.ladder_climb.proofs.Climbs.{carried-low, carried-high, carried-step}
-use Rattle.ladder.specs.declared.Ladder.{Ladder}
-use Rattle.ladder.specs.Ladder.{stateOf, sequenceIn, heldIn, valueFrom, derivativeFrom, climbedTo, pairThen, givenOn, Outcome, outcome, stateThen, outcomeBy, requested}
+use Rattle.ladder_states.specs.declared.Ladder.{Ladder}
+use Rattle.ladder_states.specs.States.{stateOf, sequenceIn, heldIn}
+use Rattle.ladder.specs.Ladder.{valueFrom, derivativeFrom, climbedTo, pairThen, givenOn, Outcome, outcome, stateThen, outcomeBy, requested}
 use Rattle.ladder.specs.Ladder.Open.{climbedTo-is, pairFrom-is, state-stays, state-goes-on, state-starts, values-stay, values-go-on, derivatives-stay, derivatives-go-on, outcome-by, requested-is}
 use Rattle.ladder.proofs.Climbs.{climbed-here}
 use Rattle.ladder_lists.specs.Demand3.{ask, Number, Long, tabledValue, tabledDerivative, heldAfter, stateDue, pairDue, valuesDue, derivativesDue, says, JustWritten, Climbed, StateRight}

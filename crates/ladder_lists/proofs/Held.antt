@@ -19,7 +19,8 @@ use Rattle.tables.proofs.Calls.{not-refused-long, value-is, derivative-is, valu
 use Rattle.ladder_machine.specs.Machine.{Request, holding}
 use Rattle.ladder_machine.specs.Held.{countsEmpty, machineOf}
 use Rattle.ladder_machine.proofs.Laws.{machine-holding, not-counted-empty}
-use Rattle.ladder.specs.Ladder.{stateOf, heldIn, stateFor, pairFrom}
+use Rattle.ladder_states.specs.States.{stateOf, heldIn}
+use Rattle.ladder.specs.Ladder.{stateFor, pairFrom}
 use Rattle.ladder.specs.Ladder.Open.{stateFor-is, pairFrom-is}
 use Rattle.ladder_lists.specs.Demand3.{Long, tabled, tabledValue, tabledDerivative, heldAfter}
 

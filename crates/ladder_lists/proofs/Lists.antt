@@ -6,10 +6,10 @@ use mathlib.Core.Option.{Option, some, none}
 use lib.Ieee.{Float}
 use Rattle.ladder_machine.specs.Machine.{Request, Inputs, request, Effect, effect, verdict, next, verdicts, after}
 use Rattle.ladder_machine.specs.Held.{countsEmpty, machineOf}
-use Rattle.ladder_machine.proofs.Laws.{no-rung-held, holding-parts, no-verdicts, more-verdicts, after-none, after-more}
-use Rattle.ladder.specs.declared.Ladder.{Ladder}
-use Rattle.ladder.specs.Ladder.{stateOf, heldIn, emptyState}
-use Rattle.ladder.specs.Ladder.Open.{emptyState-is}
+use Rattle.ladder_machine.proofs.Laws.{holding-parts, no-verdicts, more-verdicts, after-none, after-more}
+use Rattle.ladder_states.specs.declared.Ladder.{Ladder}
+use Rattle.ladder_states.specs.States.{heldIn}
+use Rattle.ladder_states.proofs.Laws.{nothing-held}
 use Rattle.ladder_lists.specs.Demand3.{Call, ask, fed, calledBy, called, turns, left, Number, Numbers, Long, due, dueAll, lastState, lent, Handed, Anew, HandedOn, laterRequest, lastAccepted, lastValues, lastDerivatives, Rungs, Demand3}
 use Rattle.ladder_lists.proofs.Turns.{Finished, machineAt, stateAt, KnownAt, requestAt, later, later-request, machine-at, does, call-due, call-known, call-state, call-machine}
 use Rattle.ladder_lists.proofs.AnyState.{state-right}
@@ -91,9 +91,9 @@ module _ (table : Request → List Float) (long : Long table) (s₀ : Ladder) (n
 -- ---- DEMAND 3
 
 pub demand3 : Demand3
-unfolding heldIn stateOf
+unfolding heldIn
 demand3 = record {
-  begins = no-rung-held (heldIn emptyState) (ap (λ (s : Ladder). s .n) emptyState-is);
+  begins = nothing-held;
   lists = λ table long s nothing cs numbers. record {
     calls = all-calls table long s nothing cs numbers none tt;
     machine = all-machine table long s nothing cs numbers none tt;

@@ -21,9 +21,10 @@ use Rattle.tables.proofs.Values.{P7, four-values, four-answer}
 use Rattle.ladder_machine.specs.Machine.{Request, asks, repeats, climbs, startsOver, effect, verdicts, empty}
 use Rattle.ladder_machine.proofs.Laws.{repeats-count, climbs-count, starts-count}
 use Rattle.ladder_machine.proofs.Values.{P11-verdicts}
-use Rattle.ladder.specs.declared.Ladder.{Ladder}
+use Rattle.ladder_states.specs.declared.Ladder.{Ladder}
+use Rattle.ladder_states.specs.States.{emptyState}
 use Rattle.ladder.specs.declared.Reply.{Reply}
-use Rattle.ladder.specs.Ladder.{emptyState, writtenOf, givenBy, Outcome, outcome, requested}
+use Rattle.ladder.specs.Ladder.{writtenOf, givenBy, Outcome, outcome, requested}
 use Rattle.ladder.proofs.Outcomes.{lengths-kept}
 use Rattle.ladder_lists.specs.Demand3.{Call, ask, fed, calledBy, turns, Numbers, Long, tabledValue, tabledDerivative, pairDue, valuesDue, derivativesDue, due, dueAll}
 use Rattle.ladder_lists.specs.Examples.{onOneLadder, shown, two, four}

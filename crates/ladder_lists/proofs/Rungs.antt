@@ -19,8 +19,8 @@ use Rattle.slots.proofs.Filled.{length-filled, filled-in, filled-out}
 use Rattle.ladder_machine.specs.Machine.{Request, request, Effect, stays, goesOn, startsAt}
 use Rattle.ladder_machine.specs.Held.{countsEmpty}
 use Rattle.ladder_machine.proofs.Laws.{accepted, Does}
-use Rattle.ladder.specs.declared.Ladder.{Ladder}
-use Rattle.ladder.specs.Ladder.{heldIn}
+use Rattle.ladder_states.specs.declared.Ladder.{Ladder}
+use Rattle.ladder_states.specs.States.{heldIn}
 use Rattle.ladder_lists.specs.Demand3.{Long, tabled, tabledValue, tabledDerivative, valuesDue, derivativesDue, ask, Onward, Handed, Anew}
 use Rattle.ladder_lists.proofs.Held.{facts, table-value, table-derivative, table-length}
 use Rattle.ladder_lists.proofs.Turns.{Finished, stateAt, KnownAt, later, known-request, goes-on, on-below, kept-value, kept-derivative}

@@ -24,8 +24,9 @@ use Rattle.ladder_machine.specs.Machine.{Request, bitsOf, sameRungs, mayClimb}
 use Rattle.ladder_machine.proofs.Laws.{same-parts, climb-parts}
 use Rattle.ladder_climb.specs.Climb.Open.{carriedValue-is, carriedDerivative-is}
 use Rattle.ladder_climb.proofs.Climbs.{carried-low, carried-high}
-use Rattle.ladder.specs.declared.Ladder.{Ladder}
-use Rattle.ladder.specs.Ladder.{stateOf, sequenceIn, stateFor, valueFrom, derivativeFrom, climbedTo}
+use Rattle.ladder_states.specs.declared.Ladder.{Ladder}
+use Rattle.ladder_states.specs.States.{stateOf, sequenceIn}
+use Rattle.ladder.specs.Ladder.{stateFor, valueFrom, derivativeFrom, climbedTo}
 use Rattle.ladder.specs.Ladder.Open.{stateFor-is, climbedTo-is}
 use Rattle.ladder_lists.proofs.Held.{Known, derivative-by, facts}
 

@@ -17,8 +17,9 @@ use Rattle.tables.specs.Tables.{valueOf, derivativeOf}
 use Rattle.ladder_machine.specs.Machine.{Request, Inputs, request, asked, refusal, Machine, empty, holding, bitsOf, sameRungs, mayClimb, Effect, stays, goesOn, startsAt, effect, verdict, heldThen, next}
 use Rattle.ladder_machine.specs.Held.{countsEmpty, machineOf}
 use Rattle.ladder_machine.proofs.Laws.{machine-empty, accepted, Does, effect-means, next-by, held-stays, held-goes-on, held-starts}
-use Rattle.ladder.specs.declared.Ladder.{Ladder}
-use Rattle.ladder.specs.Ladder.{stateOf, heldIn, stateFor, valueFrom, derivativeFrom, climbedTo, pairThen, givenOn, Outcome, stateThen, valuesThen, derivativesThen, requested}
+use Rattle.ladder_states.specs.declared.Ladder.{Ladder}
+use Rattle.ladder_states.specs.States.{stateOf, heldIn}
+use Rattle.ladder.specs.Ladder.{stateFor, valueFrom, derivativeFrom, climbedTo, pairThen, givenOn, Outcome, stateThen, valuesThen, derivativesThen, requested}
 use Rattle.ladder.specs.Ladder.Open.{stateFor-is, state-stays, state-goes-on, state-starts, values-stay, values-go-on, values-start, derivatives-stay, derivatives-go-on, derivatives-start, outcome-by, requested-is}
 use Rattle.ladder_lists.specs.Demand3.{ask, Long, tabledValue, tabledDerivative, stateDue, pairDue, valuesDue, derivativesDue, due, laterRequest}
 use Rattle.ladder_lists.proofs.Held.{Known, facts, state-machine, table-value, table-derivative, table-pair, state-after}

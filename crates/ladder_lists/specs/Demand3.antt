@@ -1,6 +1,6 @@
 -- DEMAND 3 (the mission's third; 01, "The ladder"), as one statement: `Demand3`, at the end. Of the ladder it cites
--- `requested`, which the contract of `Ladder::request` equates with its reply and both tables, and `emptyState`, which
--- that of `Ladder::empty` equates with its result. All else is in the documents' words: 01's machine
+-- `requested`, which the contract of `ladder::request` equates with its reply and both tables, and `emptyState`, which
+-- that of `ladder_states::empty` equates with its result. All else is in the documents' words: 01's machine
 -- (crates/ladder_machine/specs), the table call's `answer` and `tableAfter`, a step of the recurrence, the derivative
 -- formula, slots.
 use mathlib.Core.Path.{_≡_}
@@ -22,8 +22,9 @@ use Rattle.ladder_machine.specs.Machine.{Request, Inputs, request, Feed, Machin
 use Rattle.ladder_machine.specs.Machine.{repeats, climbs, startsOver, refusedBy, written, Effect, stays, goesOn}
 use Rattle.ladder_machine.specs.Machine.{startsAt, effect, verdict, next, verdicts, after}
 use Rattle.ladder_machine.specs.Held.{countsEmpty, machineOf}
-use Rattle.ladder.specs.declared.Ladder.{Ladder}
-use Rattle.ladder.specs.Ladder.{Given, emptyState, Outcome, outcome, requested}
+use Rattle.ladder_states.specs.declared.Ladder.{Ladder}
+use Rattle.ladder_states.specs.States.{emptyState}
+use Rattle.ladder.specs.Ladder.{Given, Outcome, outcome, requested}
 
 -- ---- a list of calls, and its turns
 

@@ -14,8 +14,9 @@ use Rattle.order.specs.Order.{shifted, topRung}
 use Rattle.floats.specs.declared.Function.the-variants.{D, «V»}
 use Rattle.tables.specs.Tables.{refusal, tableAfter, answer}
 use Rattle.ladder_machine.specs.Machine.{Request, asks}
-use Rattle.ladder.specs.declared.Ladder.{Ladder}
-use Rattle.ladder.specs.Ladder.{emptyState, Outcome, requested}
+use Rattle.ladder_states.specs.declared.Ladder.{Ladder}
+use Rattle.ladder_states.specs.States.{emptyState}
+use Rattle.ladder.specs.Ladder.{Outcome, requested}
 
 -- requests to one ladder with the same two tables, each call given state and tables as the one before left them
 unfoldable pub onOneLadder : Ladder → List Request → List Float → List Float → List Outcome

@@ -3,24 +3,17 @@
 use mathlib.Core.Path.{_≡_, refl}
 use mathlib.Core.List.{List}
 use Prim.Native.Nat.{ℕ, _+_, _-_}
-use mathlib.Core.Bool.{false}
 use lib.ListN.{length}
 use lib.Ieee.{Float}
-use Rattle.floats.specs.Operations.{f0}
-use Rattle.floats.specs.declared.Function.the-variants.{D}
 use Rattle.derivatives.specs.Derivatives.{derivative}
 use Rattle.slots.specs.Slots.{filled}
 use Rattle.tables.specs.Tables.{sequenceOf, valueOf, derivativeOf}
 use Rattle.ladder_machine.specs.Machine.{Request, asked, Verdict, stays, goesOn, startsAt, effect, verdict}
 use Rattle.ladder_machine.specs.Held.{machineOf}
-use Rattle.ladder.specs.declared.Ladder.{Ladder}
-use Rattle.ladder.specs.Ladder.{stateOf, sequenceIn, heldIn, emptyState, stateFor, valueFrom, derivativeFrom}
-use Rattle.ladder.specs.Ladder.{climbedTo, pairFrom, givenOn, outcome, stateThen, valuesThen, derivativesThen}
-use Rattle.ladder.specs.Ladder.{outcomeBy, requested}
-
-pub emptyState-is : emptyState ≡ stateOf (record { function = D; below = false; x = f0; f = f0 }) 0 f0 f0
-unfolding emptyState
-emptyState-is = refl
+use Rattle.ladder_states.specs.declared.Ladder.{Ladder}
+use Rattle.ladder_states.specs.States.{stateOf, sequenceIn, heldIn}
+use Rattle.ladder.specs.Ladder.{stateFor, valueFrom, derivativeFrom, climbedTo, pairFrom, givenOn, outcome}
+use Rattle.ladder.specs.Ladder.{stateThen, valuesThen, derivativesThen, outcomeBy, requested}
 
 pub stateFor-is : (q : Request) (n : ℕ)
     → stateFor q n

@@ -1,11 +1,25 @@
 // The state of a ladder, made and taken apart.
 
 ghost use mathlib.Core.Path.{_≡_};
-ghost use Rattle.ladder.specs.Ladder.{stateOf, sequenceIn, heldIn};
-use crate::Ladder;
+ghost use mathlib.Core.Bool.{true};
+ghost use Rattle.ladder_machine.specs.Held.{countsEmpty};
+ghost use Rattle.ladder_states.specs.States.{stateOf, sequenceIn, emptyState, heldIn};
+use floats::Function;
 use ladder_machine::Held;
 use order::Rung;
 use rungs::Sequence;
+
+// The state: function, side (v < 0 or not), argument, fraction of the order, n, and the values of rungs n - 1 and n. It
+// counts as empty where n is 0 or above 1000, x or f is NaN, or the size of f is 1 or more.
+pub struct Ladder {
+    pub function: Function,
+    pub below: bool,
+    pub x: f64,
+    pub f: f64,
+    pub n: Rung,
+    pub low: f64,
+    pub high: f64,
+}
 
 // The state that holds rungs 0 to n of a sequence; low and high are the values of rungs n - 1 and n. Every state is
 // made here.
@@ -25,7 +39,7 @@ pub fn state_of(sequence: Sequence, n: Rung, low: f64, high: f64) -> Ladder
 }
 
 // Which rungs a state holds.
-pub(crate) fn sequence_in(s: Ladder) -> Sequence
+pub fn sequence_in(s: Ladder) -> Sequence
     ensures { λ r. ⌜ r ≡ sequenceIn s ⌝ }
 {
     let function = s.function;
@@ -37,8 +51,22 @@ pub(crate) fn sequence_in(s: Ladder) -> Sequence
     }
 }
 
+// A ladder that holds nothing.
+pub fn empty() -> Ladder
+    ensures state { λ r. ⌜ r ≡ emptyState ⌝ }
+    ensures empty { λ r. ⌜ countsEmpty (heldIn r) ≡ true ⌝ }
+{
+    let nothing = Sequence {
+        function: Function::D,
+        below: false,
+        x: 0.0,
+        f: 0.0,
+    };
+    state_of(nothing, 0, 0.0, 0.0)
+}
+
 // The fields of a state, its two values left out.
-pub(crate) fn held_in(s: Ladder) -> Held
+pub fn held_in(s: Ladder) -> Held
     ensures { λ r. ⌜ r ≡ heldIn s ⌝ }
 {
     let function = s.function;

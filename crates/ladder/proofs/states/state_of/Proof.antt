@@ -1,9 +1,0 @@
--- `ladder::states::state_of` meets its contract: field by field.
-use mathlib.Core.Path.{refl}
-use Rattle.ladder.specs.Ladder.{stateOf}
-use Rattle.ladder.proofs.states.state_of.Statement.{statement}
-use Rattle.ladder.proofs.states.state_of.Tie as tie
-
-pub state-of-spec : {M : Type 1} → statement M
-unfolding stateOf
-state-of-spec = tie.close (tie.spec (λ c. refl))

@@ -75,7 +75,7 @@ impl Place {
             fs::create_dir_all(root.join(folder)).unwrap();
         }
         fs::write(root.join("crates.txt"), "gozhnerim:\n").unwrap();
-        fs::write(root.join("crates/gozhnerim/src/lib.rt"), "code\n").unwrap();
+        fs::write(root.join("crates/gozhnerim/src/code"), "code\n").unwrap();
         let place = Place {
             root,
             _alone: alone,

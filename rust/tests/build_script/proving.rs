@@ -107,7 +107,7 @@ fn a_finished_library_is_taken() {
 fn a_changed_source_is_proved() {
     let place = Place::new("changed_source").with_rt(&writes(""), 0o755);
     assert!(ran_rt(&place));
-    let code = "crates/gozhnerim/src/lib.rt";
+    let code = "crates/gozhnerim/src/code";
     let changes: [&dyn Fn(); 6] = [
         &|| place.write(code, "cod\n"),
         &|| place.write("crates/gozhnerim/src/more.rt", ""),

@@ -1,7 +1,7 @@
 -- Laws about Booleans: of `T b`, that b is true, and of equations.
 use mathlib.Core.Path.{_≡_, refl, sym}
 use mathlib.Core.Logic.{_⊎_, inl, inr}
-use mathlib.Core.Bool.{Bool, true, false, not, _&&_, _||_, true≢false}
+use mathlib.Core.Bool.{Bool, true, false, not, _&&_, _||_, Bool·beq, true≢false}
 use lib.Dec.{T}
 
 pub same-test : (a b : Bool) → (T a → T b) → (T b → T a) → a ≡ b
@@ -36,6 +36,17 @@ neither {a = true} e = absurd (true≢false e)
 pub never : (b : Bool) → (b && false) ≡ false
 never true = refl
 never false = refl
+
+pub not-false : {b : Bool} → not b ≡ false → b ≡ true
+not-false {b = true} e = refl
+not-false {b = false} e = absurd (true≢false e)
+
+-- equal by the test
+pub beq-same : (a b : Bool) → T (Bool·beq a b) → a ≡ b
+beq-same true true t = refl
+beq-same false false t = refl
+beq-same true false t = absurd t
+beq-same false true t = absurd t
 
 pub not-true : {b : Bool} → not b ≡ true → b ≡ false
 not-true {b = true} e = absurd (true≢false (sym e))

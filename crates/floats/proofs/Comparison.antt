@@ -2,7 +2,7 @@
 use mathlib.Core.Path.{_≡_, refl, sym, ap, _∙_, subst}
 use mathlib.Core.Logic.{_⊎_, inl, inr}
 use Prim.Native.Nat.{ℕ, _+_, _*_, _≤_, _<_}
-use native.Mathlib.Nat.{le-of-eq, le-of-lt, eq-or-lt-of-le, lt-of-not-le, zero-mul, mul-comm, mul-assoc, mul-pos, eq-of-mul-eq-mul-right}
+use native.Mathlib.Nat.{le-of-eq, le-of-lt, eq-or-lt-of-le, lt-of-not-le, zero-mul, mul-comm, mul-assoc, mul-right-comm, mul-pos, eq-of-mul-eq-mul-right}
 use native.Mathlib.Omega.{arith}
 use mathlib.Core.Bool.{Bool, true, false, not, _&&_, _||_, Bool·beq}
 use lib.IntN.{ℤ}
@@ -12,7 +12,7 @@ use lib.Ieee.Fits.{eq→eqb, and-i, down-pos, and-l, and-r}
 use lib.Ieee.Exact.{HasValue}
 use Rattle.floats.specs.Operations.{f0}
 use Rattle.floats.specs.Facts.{SignedLe}
-use Rattle.floats.proofs.Booleans.{same-test, or-split, or-l, or-r}
+use Rattle.floats.proofs.Booleans.{same-test, or-split, or-l, or-r, beq-same}
 use Rattle.floats.proofs.Tests.{one, lt-or-ge, le-of-tests, ltb-same, eqb-same, add-scale, scale-l, scale-r}
 use Rattle.floats.proofs.Values.{value-unique, rescale, own-value, zero-value, fin-value}
 
@@ -65,23 +65,14 @@ equal-value (fin s m e) y t b c C w h =
     let A = m * up e * c in
     let B = b * down e in
     let D = down e * c in
-    let v : HasValue (fin s m e) s A D = rescale (fin s m e) s (m * up e) (down e) A D (down-pos e) (swap (m * up e) (down e) c) (own-value s m e) in
+    let v : HasValue (fin s m e) s A D = rescale (fin s m e) s (m * up e) (down e) A D (down-pos e) (sym (mul-assoc (m * up e) (down e) c) ∙ mul-right-comm (m * up e) (down e) c) (own-value s m e) in
     let w' : HasValue y t B D = rescale y t b c B D C (sym (mul-assoc b (down e) c)) w in
     let k : T (level s A t B) = subst T (eq-at (fin s m e) y s A t B D (mul-pos (down-pos e) C) v w') h in
     let same : A ≡ B = eqb→eq A B (and-l (eqb A B) (Bool·beq s t || eqb A 0) k) in
     (s, (refl, same), signs same (or-split (Bool·beq s t) (eqb A 0) (and-r (eqb A B) (Bool·beq s t || eqb A 0) k)))
   where
-    swap : (m c d : ℕ) → m * (c * d) ≡ m * d * c
-    swap m c d = omega arith
-
-    like : (s t : Bool) → T (Bool·beq s t) → s ≡ t
-    like true true h = refl
-    like false false h = refl
-    like true false h = absurd h
-    like false true h = absurd h
-
     signs : m * up e * c ≡ b * down e → T (Bool·beq s t) ⊎ T (eqb (m * up e * c) 0) → (b ≡ 0) ⊎ (s ≡ t)
-    signs same (inl h) = inr (like s t h)
+    signs same (inl h) = inr (beq-same s t h)
     signs same (inr h) =
         inl (eq-of-mul-eq-mul-right (down e) (down-pos e) b 0 (sym same ∙ eqb→eq (m * up e * c) 0 h ∙ sym (zero-mul (down e))))
 
@@ -267,6 +258,16 @@ le-no-nan (inf s) (fin t n d) h = (tt, tt)
 le-no-nan (fin s m e) nan h = absurd h
 le-no-nan (fin s m e) (inf t) h = (tt, tt)
 le-no-nan (fin s m e) (fin t n d) h = (tt, tt)
+
+pub eq-no-nan : (x y : Float) → T (eq x y) → T (not (isNan x)) × T (not (isNan y))
+unfolding isNan eq
+eq-no-nan nan y h = absurd h
+eq-no-nan (inf s) nan h = absurd h
+eq-no-nan (inf s) (inf t) h = (tt, tt)
+eq-no-nan (inf s) (fin t n d) h = (tt, tt)
+eq-no-nan (fin s m e) nan h = absurd h
+eq-no-nan (fin s m e) (inf t) h = (tt, tt)
+eq-no-nan (fin s m e) (fin t n d) h = (tt, tt)
 
 pub float-lt-le-trans : (x y z : Float) → T (lt x y) → T (le y z) → T (lt x z)
 float-lt-le-trans x y z h k =

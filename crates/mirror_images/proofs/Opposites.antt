@@ -4,13 +4,14 @@ use mathlib.Core.Path.{_≡_, refl, sym, ap, _∙_, subst}
 use mathlib.Core.Logic.{_⊎_, inl, inr}
 use Prim.Native.Nat.{ℕ, _*_}
 use native.Mathlib.Nat.{zero-mul}
-use mathlib.Core.Bool.{Bool, true, false, not, Bool·beq, true≢false}
+use mathlib.Core.Bool.{Bool, true, false, not, true≢false}
 use lib.Dec.{T}
 use lib.IntN.{ℤ}
 use lib.Ieee.{Float, nan, inf, fin, binary64, up, down, neg, eq, fits}
 use lib.Ieee.Exact.{HasValue}
 use lib.Ieee.Fits.{and-i, down-pos, neg-fits}
 use Rattle.floats.specs.Operations.{f0}
+use Rattle.floats.proofs.Booleans.{beq-same}
 use Rattle.floats.proofs.Values.{value-unique, rescale, own-value, neg-value}
 use Rattle.floats.proofs.Comparison.{equal-value, zero-equal}
 use Rattle.mirror_images.specs.Images.{signed, MirrorOf, zeros, exact}
@@ -20,12 +21,6 @@ side true true = inl refl
 side true false = inr refl
 side false true = inr refl
 side false false = inl refl
-
-unlike-signs : (s t : Bool) → Bool·beq t (not s) ≡ true → t ≡ not s
-unlike-signs true true e = absurd (true≢false (sym e))
-unlike-signs true false e = refl
-unlike-signs false true e = refl
-unlike-signs false false e = absurd (true≢false (sym e))
 
 finite-opposites : (s : Bool) (m : ℕ) (d : ℤ) (y : Float) → T (fits binary64 (fin s m d)) → T (fits binary64 y) → eq y (neg (fin s m d)) ≡ true
     → (y ≡ neg (fin s m d)) ⊎ ((y ≡ fin s m d) × T (eq (fin s m d) f0))
@@ -65,7 +60,7 @@ opposites nan nan p q e = absurd (true≢false (sym e))
 opposites nan (inf t) p q e = absurd (true≢false (sym e))
 opposites nan (fin t n c) p q e = absurd (true≢false (sym e))
 opposites (inf s) nan p q e = absurd (true≢false (sym e))
-opposites (inf s) (inf t) p q e = inl (ap inf (unlike-signs s t e))
+opposites (inf s) (inf t) p q e = inl (ap inf (beq-same t (not s) (subst T (sym e) tt)))
 opposites (inf s) (fin t n c) p q e = absurd (true≢false (sym e))
 opposites (fin s m d) y p q e = finite-opposites s m d y p q e
 

@@ -3,7 +3,7 @@
 use mathlib.Core.Path.{_≡_, refl, sym, ap, _∙_}
 use mathlib.Core.Logic.{_⊎_, inl, inr}
 use Prim.Native.Nat.{ℕ, _+_, _-_, _*_, _≤_, _<_}
-use native.Mathlib.Nat.{zero-mul, mul-pos, mul-assoc}
+use native.Mathlib.Nat.{zero-mul, mul-pos, mul-assoc, mul-right-comm}
 use native.Mathlib.Omega.{arith}
 use mathlib.Core.Bool.{Bool, true, false, not, _&&_, Bool·beq, cond}
 use lib.Dec.{T, ltb, ltb→lt, nltb→le}
@@ -138,7 +138,7 @@ sum-views s a a' b b' v w =
     let C = mul-pos (v .positive) (w .positive) in
     let m = v .m * w .c in
     let n = w .m * v .c in
-    let one-over : v .m * c ≡ m * v .c = swap (v .m) (v .c) (w .c) in
+    let one-over : v .m * c ≡ m * v .c = sym (mul-assoc (v .m) (v .c) (w .c)) ∙ mul-right-comm (v .m) (v .c) (w .c) in
     let other-over : w .m * c ≡ n * w .c = sym (mul-assoc (w .m) (v .c) (w .c)) in
     let k = same-sum s (v .t) (w .t) (v .u) (w .u) m n (none (v .m) (w .c) (v .signs)) (none (w .m) (v .c) (w .signs)) in
     let at : (x y : Float) (t u : Bool) → HasValue x t (v .m) (v .c) → HasValue y u (w .m) (w .c) → x ⊕ y ≡ round binary64 (sumSign t m u n) (sumSize t m u n) c =
@@ -149,9 +149,6 @@ sum-views s a a' b b' v w =
     (at a' b' (v .u) (w .u) (v .right) (w .right) ∙ ap (λ (z : ℕ). round binary64 (sumSign (v .u) m (w .u) n) z c) (k .size))
     (k .signs)
   where
-    swap : (m c d : ℕ) → m * (c * d) ≡ m * d * c
-    swap m c d = omega arith
-
     none : (m c : ℕ) {A : Type 0} → (m ≡ 0) ⊎ A → (m * c ≡ 0) ⊎ A
     none m c (inl e) = inl (ap (λ (z : ℕ). z * c) e ∙ zero-mul c)
     none m c (inr a) = inr a

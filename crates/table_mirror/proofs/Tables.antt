@@ -1,18 +1,22 @@
 -- The mirror check on the slots of the table call and on its answer.
-use mathlib.Core.Path.{_≡_, refl, sym, ap, _∙_}
-use mathlib.Core.Logic.{_⊎_}
+use mathlib.Core.Path.{_≡_, refl, sym, ap, _∙_, subst}
+use mathlib.Core.Logic.{_⊎_, inl, inr}
 use mathlib.Core.List.{List}
 use mathlib.Core.Option.{some}
-use mathlib.Core.Bool.{Bool, true, false, not, true≢false}
-use Prim.Native.Nat.{ℕ, suc, _+_, _-_, _*_, _%_, _≤_}
+use mathlib.Core.Bool.{true, false, not}
+use Prim.Native.Nat.{ℕ, suc, _+_, _-_, _*_, _%_, _≤_, _<_}
 use native.Mathlib.Numerals.{add-one}
 use native.Mathlib.Omega.{arith}
 use lib.Dec.{T, eqb}
 use lib.ListN.{length, getD}
 use lib.Ieee.{Float, nan, inf, fin, binary64, neg, eq, ne, fits, isNan, ofBits}
+use lib.Ieee.Bits.{is-true, ofBits-fits}
 use lib.Ieee.Fits.{neg-fits}
 use Rattle.floats.specs.Operations.{f0}
 use Rattle.floats.specs.declared.Function.the-variants.{D}
+use Rattle.floats.proofs.Booleans.{not-true, not-false}
+use Rattle.floats.proofs.Tests.{lt-or-ge}
+use Rattle.floats.proofs.Comparison.{eq-no-nan}
 use Rattle.mirror_images.specs.Images.{odd}
 use Rattle.mirror_images.proofs.Laws.{in-words}
 use Rattle.mirror_images.proofs.Opposites.{opposites}
@@ -28,25 +32,21 @@ use Rattle.rungs.proofs.Laws.{value-forward, derivative-at}
 use Rattle.slots.specs.Slots.{slot}
 use Rattle.tables.specs.Tables.{valueOf, derivativeOf, tableAfter, answer}
 use Rattle.tables.specs.Slots.{Slots}
-use Rattle.tables.proofs.Calls.{not-refused-long, value-is, derivative-is}
+use Rattle.tables.proofs.Calls.{not-refused-long, value-is, derivative-is, values-of-D}
 use Rattle.tables.proofs.Slots.{slots}
-use Rattle.table_mirror.specs.Mirror.{Opposite, TablesMirrored, Mirrored, MirrorCheck}
+use Rattle.table_mirror.specs.Mirror.{Opposite, TablesMirrored, OthersAsFound, Mirrored, MirrorCheck}
 use Rattle.table_mirror.proofs.Rungs.{value-image, derivative-image}
 
-neg-number : (x : Float) → isNan x ≡ false → isNan (neg x) ≡ false
+neg-nan : (x : Float) → isNan (neg x) ≡ isNan x
 unfolding isNan neg
-neg-number nan h = h
-neg-number (inf s) h = refl
-neg-number (fin s m e) h = refl
+neg-nan nan = refl
+neg-nan (inf s) = refl
+neg-nan (fin s m e) = refl
 
 -- a number is equal to itself
 number-itself : (x : Float) → isNan x ≡ false → eq x x ≡ true
 unfolding ne
-number-itself x h = not-false (sym (sym h ∙ sym (nan-test x)))
-  where
-    not-false : {b : Bool} → not b ≡ false → b ≡ true
-    not-false {b = true} e = refl
-    not-false {b = false} e = absurd (true≢false e)
+number-itself x h = not-false (nan-test x ∙ h)
 
 zero-is-zero : eq f0 f0 ≡ true
 unfolding eq ofBits
@@ -98,19 +98,24 @@ module _ (m : ℕ) (v x : Float) (l : List Float) (order : WholeOrder v m) (numb
       let e : topRung v - 1 ≡ m = rw (parts .top) (omega arith) in
       called .answered ∙ rw (e, parts .columns)
 
+  -- D writes no other slot
+  others : OthersAsFound m l (tableAfter D v x l)
+  unfolding slot
+  others k no-value no-derivative =
+      let above : m + 1 < k = elim (lt-or-ge (m + 1) k) [ inl h ↦ h | inr h ↦ absurd (no-value (omega arith)) ] in
+      called .others k (rw (values-of-D v, parts .top) (omega arith)) (rw (parts .columns, parts .top) (place (lt-or-ge k (m + 3)) (lt-or-ge k (m + 3 + (m + 1)))))
+    where
+      place : (k < m + 3) ⊎ (m + 3 ≤ k) → (k < m + 3 + (m + 1)) ⊎ (m + 3 + (m + 1) ≤ k) → (k < m + 3) ⊎ (m + 3 + (m + 1) ≤ k)
+      place (inl a) b = inl a
+      place (inr a) (inl b) = absurd (no-derivative (k - (m + 3)) (omega arith) (omega arith))
+      place (inr a) (inr b) = inr b
+
 -- ---- two of them
 
 equal-numbers : (x y : Float) → eq y (neg x) ≡ true → (isNan x ≡ false) × (isNan y ≡ false)
-unfolding eq neg isNan
-equal-numbers nan nan e = absurd (true≢false (sym e))
-equal-numbers nan (inf t) e = absurd (true≢false (sym e))
-equal-numbers nan (fin t n c) e = absurd (true≢false (sym e))
-equal-numbers (inf s) nan e = absurd (true≢false (sym e))
-equal-numbers (fin s m d) nan e = absurd (true≢false (sym e))
-equal-numbers (inf s) (inf t) e = (refl, refl)
-equal-numbers (inf s) (fin t n c) e = (refl, refl)
-equal-numbers (fin s m d) (inf t) e = (refl, refl)
-equal-numbers (fin s m d) (fin t n c) e = (refl, refl)
+equal-numbers x y e =
+    let p = eq-no-nan y (neg x) (subst T (sym e) tt) in
+    (sym (neg-nan x) ∙ not-true (is-true (not (isNan (neg x))) (p .1)), not-true (is-true (not (isNan y)) (p .0)))
 
 module _ (m : ℕ) (v x : Float) (l : List Float) (w y : Float) (r : List Float) (here : WholeOrder v m) (there : WholeOrder w m) (opposite : Opposite x y)
     (long : 2 * (m + 3) ≤ length l) (long' : 2 * (m + 3) ≤ length r) where
@@ -141,12 +146,18 @@ module _ (m : ℕ) (v x : Float) (l : List Float) (w y : Float) (r : List Float)
       value = tables .values m (omega arith);
       derivative = tables .derivatives m (omega arith);
     };
+    others = others m v x l here (numbers .0) long;
+    others-there = others m w y r there (numbers .1) long';
   }
 
 -- ---- the words of the statement
 
 opposite-arguments : (x : Float) → T (fits binary64 x) → isNan x ≡ false → Opposite x (neg x)
-opposite-arguments x p h = record { same = number-itself (neg x) (neg-number x h); fit = p; fit-there = neg-fits binary64 x p }
+opposite-arguments x p h = record { same = number-itself (neg x) (neg-nan x ∙ h); fit = p; fit-there = neg-fits binary64 x p }
+
+zero-centre : eq f0 (neg f0) ≡ true
+unfolding eq neg ofBits
+zero-centre = refl
 
 odd-is : (k : ℕ) → odd k ≡ eqb (k % 2) 1
 unfolding odd
@@ -158,6 +169,7 @@ mirror-check = record {
   orders = whole-order;
   minus-zero = limits .1;
   arguments = opposite-arguments;
+  centre = record { same = zero-centre; fit = ofBits-fits binary64 0; fit-there = ofBits-fits binary64 0 };
   images = in-words;
   signs = odd-is;
 }

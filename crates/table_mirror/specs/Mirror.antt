@@ -22,11 +22,22 @@ pub record Opposite (x y : Float) : Type 0 where
   pub fit : T (fits binary64 x)
   pub fit-there : T (fits binary64 y)
 
--- the tables that come back at x and at y: values 0 to m + 1 stand at the slots from 0 on, derivatives 0 to m at those from
--- m + 3 on
+-- the rungs of a table: values 0 to m + 1 at the slots from 0 on, derivatives 0 to m at those from m + 3 on
+abbrev pub ValueRung : ℕ → ℕ → Type 0
+ValueRung m k = k ≤ m + 1
+
+abbrev pub DerivativeRung : ℕ → ℕ → Type 0
+DerivativeRung m k = k ≤ m
+
+-- the tables that come back at x and at y
 pub record TablesMirrored (m : ℕ) (t r : List Float) : Type 0 where
-  pub values : (k : ℕ) → k ≤ m + 1 → MirrorOf (odd k) (getD t k nan) (getD r k nan)
-  pub derivatives : (k : ℕ) → k ≤ m → MirrorOf (odd (k + 1)) (getD t (m + 3 + k) nan) (getD r (m + 3 + k) nan)
+  pub values : (k : ℕ) → ValueRung m k → MirrorOf (odd k) (getD t k nan) (getD r k nan)
+  pub derivatives : (k : ℕ) → DerivativeRung m k → MirrorOf (odd (k + 1)) (getD t (m + 3 + k) nan) (getD r (m + 3 + k) nan)
+
+-- no rung is left out: every other slot of the table t that comes back is as it was found in l
+abbrev pub OthersAsFound : ℕ → List Float → List Float → Type 0
+OthersAsFound m l t =
+    (k : ℕ) → (ValueRung m k → ⊥) → ((j : ℕ) → DerivativeRung m j → k ≡ m + 3 + j → ⊥) → getD t k nan ≡ getD l k nan
 
 -- what is answered at x and at y: value and derivative m
 pub record AnswersMirrored (m : ℕ) (p q : Option (Float × Float)) : Type 0 where
@@ -41,6 +52,8 @@ pub record AnswersMirrored (m : ℕ) (p q : Option (Float × Float)) : Type 0 wh
 pub record Mirrored (m : ℕ) (v x : Float) (l : List Float) (w y : Float) (r : List Float) : Type 0 where
   pub tables : TablesMirrored m (tableAfter D v x l) (tableAfter D w y r)
   pub answers : AnswersMirrored m (answer D v x (length l)) (answer D w y (length r))
+  pub others : OthersAsFound m l (tableAfter D v x l)
+  pub others-there : OthersAsFound m r (tableAfter D w y r)
 
 -- THE MIRROR CHECK
 pub record MirrorCheck : Type 0 where
@@ -51,8 +64,9 @@ pub record MirrorCheck : Type 0 where
   -- the orders that this is about: every whole number from 0 to 999, and −0.0
   pub orders : (m : ℕ) → m ≤ 999 → WholeOrder (whole m) m
   pub minus-zero : WholeOrder (neg f0) 0
-  -- the arguments: every x but NaN and its opposite
+  -- the arguments: every x but NaN and its opposite, and 0.0 and itself
   pub arguments : (x : Float) → T (fits binary64 x) → isNan x ≡ false → Opposite x (neg x)
+  pub centre : Opposite f0 f0
   -- an image in IEEE 754's words: both are NaN, or b is equal to a, or to −a
   pub images : (opposite : Bool) (a b : Float) → MirrorOf opposite a b
       → (T (isNan a) × T (isNan b)) ⊎ T (eq b (cond opposite (neg a) a))

@@ -17,11 +17,13 @@ use Rattle.order.proofs.Laws.{num-least}
 use Rattle.table_refusals.specs.Refusals.{refusalBy}
 use Rattle.table_refusals.proofs.Laws.{not-refused, accepted-by}
 use Rattle.floats.specs.declared.Function.{Function}
+use Rattle.floats.specs.declared.Function.the-variants.{D}
+use Rattle.recurrence.proofs.Laws.{no-own-two}
 use Rattle.rungs.specs.ColumnValues.{value, derivativeAt}
 use Rattle.slots.specs.Slots.{filled, slot}
 use Rattle.table_columns.specs.TableColumns.{valuesIn, bothColumns}
 use Rattle.table_columns.proofs.Room.{room-in}
-use Rattle.table_columns.proofs.Tables.{values-in, both-filled}
+use Rattle.table_columns.proofs.Tables.{values-in, plain-values, both-filled}
 use Rattle.tables.specs.Tables.{refusal, sequenceOf, valueOf, derivativeOf, valuesWritten, tableAfter, answer}
 use Rattle.tables.specs.Tables.Open.{refusal-is, valueOf-is, derivativeOf-is, valuesWritten-is, tableAfter-is, answer-is}
 use Rattle.slots.proofs.Filled.{length-filled, filled-in, filled-out}
@@ -49,6 +51,10 @@ module _ (fn : Function) (v x : Float) where
 
   pub derivative-is : derivativeOf fn v x ≡ derivativeAt (sequenceOf fn v x) (shifted v) (topRung v)
   derivative-is = derivativeOf-is fn v x
+
+-- of D just values 0 to n are written
+pub values-of-D : (v : Float) → valuesWritten D v ≡ topRung v + 1
+values-of-D v = valuesWritten-is D v ∙ plain-values D (below v) (fractionOf v) (topRung v) (no-own-two (below v) (fractionOf v))
 
 -- ---- the whole call: the table after it, and its answer
 

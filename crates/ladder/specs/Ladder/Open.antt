@@ -1,4 +1,4 @@
--- What each shut definition is, for the proofs about the ladder: those of this crate, and those of `lists`, which
+-- What each shut definition is, for the proofs about the ladder: those of this crate, and those of `ladder_lists`, which
 -- states demand 3 of these definitions.
 use mathlib.Core.Path.{_≡_, refl}
 use mathlib.Core.List.{List}

@@ -1,5 +1,7 @@
 // What a request answers (the scope paper, "A request comes in").
 
+#![tactic(auto)]
+
 // The value and the derivative, or the number of the refusal.
 #[derive(Drop)]
 pub enum Answer {

@@ -1,5 +1,7 @@
 // The branch of a table: which of its rungs are worked out first. Each public function answers every input.
 
+#![tactic(auto)]
+
 ghost use Rattle.std.specs.Prelude.{◌≡◌};
 ghost use Rattle.floats.specs.declared.Function.TheVariants.{D, «V»};
 ghost use Rattle.branches.specs.Branches.{order_is_low, runs_down, branch_of, runs_forward};

@@ -1,6 +1,8 @@
 // The functions below the C interface that compare/ holds to the Rust, each under a C name of its own. Each only calls
 // the function that it is named after.
 
+#![tactic(auto)]
+
 mod expansion_calls;
 
 ghost use Rattle.std.specs.Prelude.{◌≡◌};

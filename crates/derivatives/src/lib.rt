@@ -1,5 +1,7 @@
 // The derivatives of D and V. The function answers every input.
 
+#![tactic(auto)]
+
 ghost use Rattle.std.specs.Prelude.{◌≡◌};
 ghost use Rattle.derivatives.specs.Derivatives.{derivative};
 

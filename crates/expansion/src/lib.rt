@@ -1,5 +1,7 @@
 // The request of the expansion, with its refusals. It answers every input.
 
+#![tactic(auto)]
+
 ghost use Rattle.std.specs.Prelude.{◌≡◌};
 ghost use Rattle.answer.specs.Answer.{refusal_of, pair_of};
 ghost use Rattle.expansion.specs.Expansion.{refusal, answer};

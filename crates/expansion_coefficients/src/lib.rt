@@ -1,5 +1,7 @@
 // The 172 coefficients of DLMF 12.10 in one table, with the theorem that they are right.
 
+#![tactic(auto)]
+
 mod table;
 
 ghost use Rattle.expansion_coefficients.specs.Nearest.{TableRight};

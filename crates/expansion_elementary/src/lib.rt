@@ -1,6 +1,8 @@
 // D and its derivative at large negative orders, by the uniform expansions in elementary functions (DLMF 12.10.25 and
 // 12.10.29), with a = -v - 1/2.
 
+#![tactic(auto)]
+
 ghost use Rattle.std.specs.Prelude.{◌≡◌};
 ghost use Rattle.expansion_elementary.specs.Mantissas.{clamped, logarithm_of, exponent_of, weight, g_bar, mantissas};
 

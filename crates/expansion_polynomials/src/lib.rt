@@ -1,6 +1,8 @@
 // The polynomials u_s and v_s of DLMF 12.10, and their sums in the expansion for large negative order. Each public
 // function answers every input.
 
+#![tactic(auto)]
+
 ghost use Rattle.std.specs.Prelude.{◌≡◌, ◌-◌, ◌≤◌, true, length, take, drop};
 ghost use Rattle.floats.specs.Operations.{◌⊕◌, ◌⊗◌};
 ghost use Rattle.floats.specs.Polynomials.{polevl};

@@ -1,5 +1,7 @@
 // exp, exp2 and exp_m1: y = k ln 2 + r, the series of the exponential at r from the inside out, times 2^k.
 
+#![tactic(auto)]
+
 ghost use Rattle.std.specs.Prelude.{◌≡◌, ◌≤◌};
 ghost use Rattle.std.specs.Int.Signed.{mag};
 ghost use Rattle.exponential.specs.Exponential.{power_of_two, scaled, exp_sum, exp, exp2, exp_m1};

@@ -1,5 +1,7 @@
 // Minimum and maximum. Each function answers every f64.
 
+#![tactic(auto)]
+
 ghost use Rattle.std.specs.Prelude.{◌≡◌};
 ghost use Rattle.extremes.specs.Extremes.{lesser, greater};
 

@@ -1,5 +1,7 @@
 // Facts about binary64, and the words that every definition above shares. It has no function of code.
 
+#![tactic(auto)]
+
 // Which function: D is DLMF's U, by its order.
 #[derive(Drop)]
 pub enum Function {

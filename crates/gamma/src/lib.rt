@@ -1,6 +1,8 @@
 // gamma2: whole numbers by their product, all others by the series of 1/Γ at the fraction, the recurrence of Γ, and
 // below -1 the reflection.
 
+#![tactic(auto)]
+
 ghost use Rattle.std.specs.Prelude.{◌≡◌};
 ghost use Rattle.std.specs.Float.Ieee.{to_signed};
 ghost use Rattle.gamma.specs.Gamma.{last_of, factorial, falling, reciprocal_series, gamma_near, gamma_above, gamma2};

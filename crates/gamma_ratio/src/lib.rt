@@ -1,5 +1,7 @@
 // ln(Gamma(z + 1/2) / (sqrt(2 pi) z^z e^-z)) and what it is made of. Each function answers every f64.
 
+#![tactic(auto)]
+
 ghost use Rattle.std.specs.Prelude.{◌≡◌};
 ghost use Rattle.gamma_ratio.specs.GammaRatio.{log1pmx, lgam_stirling_corr, ln_gamma_ratio};
 

@@ -1,6 +1,8 @@
 // The requests that hold nothing, with an answer of C: the table calls, the expansion and the Maclaurin series. Each public
 // function answers every input.
 
+#![tactic(auto)]
+
 ghost use Rattle.std.specs.Prelude.{◌≡◌, length};
 ghost use Rattle.floats.specs.declared.Function.TheVariants.{D, «V»};
 ghost use Rattle.tables.specs.Tables.{refusal, table_after, answer};

@@ -1,6 +1,8 @@
 // A ladder's request in C, which the contracts of `gozhnerim` cite (specs/Requests.antt), and demand 3 over lists of
 // them.
 
+#![tactic(auto)]
+
 mod requests;
 
 ghost use Rattle.gozhnerim_lists.specs.Lists.{Demand3InC};

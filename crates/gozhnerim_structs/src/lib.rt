@@ -1,6 +1,8 @@
 // Answer, state and reply as structs of the C interface, as include/gozhnerim.h declares them, and what goes into them and
 // comes out of them. Each public function answers every input.
 
+#![tactic(auto)]
+
 mod answers;
 mod ladders;
 

@@ -1,6 +1,8 @@
 // What the C interface tells of an order and of a reply, and the theorems that it is what the calls test and do. Each
 // public function answers every input.
 
+#![tactic(auto)]
+
 mod cases;
 mod orders;
 

@@ -1,6 +1,8 @@
 // The ladder: a state that is held between requests and climbs when a higher order comes. Its tables are lent by the
 // caller, of any length and content. No public function has a condition: each answers every input.
 
+#![tactic(auto)]
+
 mod actions;
 
 ghost use Rattle.std.specs.Prelude.{◌≡◌};

@@ -1,6 +1,8 @@
 // The climb of the ladder: rungs carried on from the values of two neighbouring ones, in two slices that the caller
 // lends, of any lengths and content.
 
+#![tactic(auto)]
+
 ghost use Rattle.std.specs.Prelude.{◌≡◌, length};
 ghost use Rattle.ladder_climb.specs.Climb.{room_above, top_values, climbed_values, climbed_derivatives};
 

@@ -1,5 +1,7 @@
 // The two columns in two slices that the caller lends, of any lengths: values in one and derivatives in the other.
 
+#![tactic(auto)]
+
 ghost use Rattle.std.specs.Prelude.{◌≡◌, ◌≤◌, ◌<◌, length};
 ghost use Rattle.slots.specs.Slots.{filled};
 ghost use Rattle.value_column.specs.OverSlots.{derivative_over};

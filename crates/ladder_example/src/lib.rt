@@ -1,5 +1,7 @@
 // P11 of 01, through the code: four requests to one ladder.
 
+#![tactic(auto)]
+
 ghost use Rattle.std.specs.Prelude.{◌≡◌, [], ◌∷◌, Float};
 ghost use Rattle.std.proofs.Math.Option.{some};
 ghost use Rattle.floats.specs.Operations.{decimal, f0};

@@ -1,5 +1,7 @@
 // Demand 3, every list of requests to a ladder, and 01's examples.
 
+#![tactic(auto)]
+
 ghost use Rattle.ladder_lists.specs.Demand3.{Demand3};
 ghost use Rattle.ladder_lists.specs.Examples.{Examples};
 

@@ -1,6 +1,8 @@
 // The ladder machine's side of a request: what a ladder holds, and how a request to it is judged. No D or V is worked
 // out here, and no value that a ladder holds is seen. Each public function answers every input.
 
+#![tactic(auto)]
+
 mod cases;
 
 ghost use Rattle.std.specs.Prelude.{◌≡◌};

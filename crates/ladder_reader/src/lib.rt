@@ -1,6 +1,8 @@
 // The column reader: a part of one of the two tables that the caller lends, of any lengths. Each public function answers
 // every input.
 
+#![tactic(auto)]
+
 mod numbers;
 
 ghost use Rattle.std.specs.Prelude.{◌≡◌};

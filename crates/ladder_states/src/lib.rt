@@ -1,5 +1,7 @@
 // The state of a ladder, made and taken apart.
 
+#![tactic(auto)]
+
 ghost use Rattle.std.specs.Prelude.{◌≡◌, true};
 ghost use Rattle.ladder_machine.specs.Held.{counts_empty};
 ghost use Rattle.ladder_states.specs.States.{state_of, sequence_in, empty_state, held_in};

@@ -1,5 +1,7 @@
 // ln and pow: b = m 2^e with 1 ≤ m < 2, and the series of the logarithm at (m - 1) / (m + 1) from the inside out.
 
+#![tactic(auto)]
+
 ghost use Rattle.std.specs.Prelude.{◌≡◌, ◌<◌, pos, ◌-ℤ◌};
 ghost use Rattle.logarithm.specs.Logarithm.{ln_sum, ln_near_one, ln_of_parts, ln, power};
 ghost use Rattle.logarithm.specs.LnSteps.{ln_of_pattern};

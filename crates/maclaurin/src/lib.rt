@@ -1,5 +1,7 @@
 // The request of the Maclaurin series, with its refusals. It answers every input.
 
+#![tactic(auto)]
+
 ghost use Rattle.std.specs.Prelude.{◌≡◌};
 ghost use Rattle.answer.specs.Answer.{refusal_of, pair_of};
 ghost use Rattle.maclaurin.specs.Maclaurin.{any_of, refusal, answer};

@@ -1,6 +1,8 @@
 // w(x) and w'(x) by the Maclaurin series of w'' = (x^2/4 + a) w (DLMF 12.2.2), with w(0) and w'(0) as the mantissas c0
 // and c1 with the exponent e.
 
+#![tactic(auto)]
+
 ghost use Rattle.std.specs.Prelude.{◌≡◌};
 ghost use Rattle.maclaurin_series.specs.Series.{series, short_form, pb_maclaurin};
 

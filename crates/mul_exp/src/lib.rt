@@ -1,5 +1,7 @@
 // m * e^e without spurious overflow or underflow of e^e. Each function answers every f64.
 
+#![tactic(auto)]
+
 ghost use Rattle.std.specs.Prelude.{◌≡◌};
 ghost use Rattle.mul_exp.specs.MulExp.{mul_exp};
 

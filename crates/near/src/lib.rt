@@ -1,5 +1,7 @@
 // 01's near.
 
+#![tactic(auto)]
+
 ghost use Rattle.std.specs.Prelude.{◌≡◌};
 ghost use Rattle.near.specs.Near.{near};
 

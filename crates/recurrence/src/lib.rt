@@ -1,5 +1,7 @@
 // The recurrences of D and V: one step of each. Each function answers every input.
 
+#![tactic(auto)]
+
 ghost use Rattle.std.specs.Prelude.{◌≡◌};
 ghost use Rattle.recurrence.specs.Recurrence.{step, own_rung_two, next_rung, step_down};
 

@@ -8,6 +8,8 @@
 // of the sign, 9218868437227405312 is the pattern of infinity, and 4602678819172646912 is 1022 * 2^52, which added to a
 // significand makes the pattern of significand / 2^52.
 
+#![tactic(auto)]
+
 mod certificate;
 mod digits;
 mod guess;

@@ -1,5 +1,7 @@
 // The rungs of D and V: which they are, and the values that they start from. Each public function answers every input.
 
+#![tactic(auto)]
+
 mod start;
 
 ghost use Rattle.rungs.specs.Source.{AsSource};

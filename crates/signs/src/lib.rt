@@ -1,6 +1,8 @@
 // What a float is, beside its value: its sign, whether it is NaN or an infinity, whether two are alike. Each function
 // answers every f64.
 
+#![tactic(auto)]
+
 ghost use Rattle.std.specs.Prelude.{◌≡◌};
 ghost use Rattle.std.specs.Float.Ieee.{is_nan};
 ghost use Rattle.signs.specs.Signs.{alike, absolute, infinite, sign_of};

@@ -10,6 +10,8 @@
 //
 // Tables take dvla beyond a size of x of 5.8 and vvla beyond 7.5.
 
+#![tactic(auto)]
+
 ghost use Rattle.std.specs.Prelude.{◌≡◌};
 ghost use Rattle.start_sums_large.specs.StartSums.{dvla_sum, dvla_expansion, dvla_joined, dvla, vvla_sum};
 ghost use Rattle.start_sums_large.specs.StartSums.{vvla_expansion, vvla_joined, vvla};

@@ -12,6 +12,8 @@
 //
 // Tables take dvsa up to a size of x of 5.8 and vvsa up to 7.5, and vvsa for the top rungs of V up to 10.
 
+#![tactic(auto)]
+
 ghost use Rattle.std.specs.Prelude.{◌≡◌};
 ghost use Rattle.start_sums_small.specs.SmallSums.{is_pole, dvsa_at_zero, dvsa_sum, dvsa, vvsa_at_zero, vvsa_sum, vvsa};
 

@@ -1,5 +1,7 @@
 // Replays the stored answers of the compared Rust (data/, written by compare/store) and compares bits.
 
+#![tactic(auto)]
+
 mod elementary_answer;
 mod expansion_answer;
 mod floats_answer;

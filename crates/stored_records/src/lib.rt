@@ -1,6 +1,8 @@
 // A record of a data file: the number of a function, x, y and the answer, in words of eight bytes, the lowest first. What
 // lies past the end counts as 0.
 
+#![tactic(auto)]
+
 ghost use Rattle.std.specs.Prelude.{◌≡◌, ◌<◌, ◌^◌, get_or};
 ghost use Rattle.std.specs.Float.Ieee.{of_bits};
 ghost use Rattle.std.specs.Float.{binary64};

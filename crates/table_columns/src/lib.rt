@@ -1,5 +1,7 @@
 // Both columns in one slice that the caller lends, of any length.
 
+#![tactic(auto)]
+
 ghost use Rattle.std.specs.Prelude.{◌≡◌, ◌+◌, ◌≤◌, ◌<◌, cond, ◌&&◌, eqb, length, set};
 ghost use Rattle.floats.specs.Operations.{◌⊗◌};
 ghost use Rattle.recurrence.specs.Recurrence.{own_rung_two};

@@ -1,5 +1,7 @@
 // The refusals that a table call and a ladder request share. The function answers every input.
 
+#![tactic(auto)]
+
 ghost use Rattle.std.specs.Prelude.{◌≡◌};
 ghost use Rattle.table_refusals.specs.Refusals.{refusal_by};
 

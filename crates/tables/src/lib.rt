@@ -1,6 +1,8 @@
 // The table call of a function: values from slot 0 on and derivatives from slot num on, in a slice that the caller
 // lends, of any length. It says whether the request is refused, and else stores and answers.
 
+#![tactic(auto)]
+
 ghost use Rattle.std.specs.Prelude.{◌≡◌, ◌+◌, ◌-◌, ◌≤◌, length};
 ghost use Rattle.std.proofs.Math.Option.{some};
 ghost use Rattle.slots.specs.Slots.{slot};

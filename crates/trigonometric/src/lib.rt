@@ -1,6 +1,8 @@
 // sin and cos: y is q quarter turns and r, and the quadrant q modulo 4 says which of the two series at r it is, and
 // with which sign.
 
+#![tactic(auto)]
+
 ghost use Rattle.std.specs.Prelude.{◌≡◌, ◌≤◌};
 ghost use Rattle.trigonometric.specs.Trigonometric.{quadrant, angle_rest, trig_sum, sine, cosine, sin_in, cos_in};
 ghost use Rattle.trigonometric.specs.Trigonometric.{sin, cos};

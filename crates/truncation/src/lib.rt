@@ -1,5 +1,7 @@
 // The cut towards zero: to an i32, and to a whole float. Each public function answers every f64.
 
+#![tactic(auto)]
+
 ghost use Rattle.std.specs.Prelude.{◌≡◌, true};
 ghost use Rattle.std.specs.Float.Ieee.{lt, to_signed};
 ghost use Rattle.floats.specs.Operations.{f0, whole_from};

@@ -1,5 +1,7 @@
 // The value column, filled in a slice that the caller lends, of any length.
 
+#![tactic(auto)]
+
 mod downward;
 mod upward;
 

@@ -10,7 +10,7 @@ import os
 import re
 import sys
 
-TRIVIAL = {"tt", "omega arith", "search rules", "omega (arith)", "refl"}
+TRIVIAL = {"tt", "omega arith", "search rules", "omega (arith)"}
 
 
 def clause_names():
@@ -137,11 +137,36 @@ class Turner:
                 if fn:
                     self.callee[b] = fn
         self.places = {p[0]: n for p, n in zip(entry["places"], entry["places_by_name"])}
+        self.every = dict(self.steps)
+        self.arms = []
         self.said, self.typed = [], {}
 
-    def raw(self, e):
-        """A helper's argument c.before.. as its place."""
-        return e
+    def at(self, place):
+        """From here on names are read at a place: those of the arms and steps that lead to it."""
+        rows = {p[0]: (p, a) for p, a in zip(self.entry["places"], self.entry["arms"])}
+        self.steps, self.arms = dict(self.every), []
+        chain = []
+        while place:
+            (_, parent, step, fn, _), arm = rows[place]
+            chain.append((step, arm))
+            place = parent
+        for (a, b), arm in reversed(chain):
+            if a:
+                self.steps[a] = b
+                self.steps[a.replace("_", "-")] = b
+            if arm:
+                for new, old, subs in arm[2]:
+                    path = new if new.startswith(arm[0]) else arm[0] + "." + new
+                    self.arms.insert(0, ([old] + subs, path.split(".")))
+
+    def inlined(self, e):
+        """E without the names of places, as let a = c.before in."""
+        while True:
+            m = re.search(r"let ([\w-]+) = c((?:\.before)*) in\s*", e)
+            if not m:
+                return e
+            rest = re.sub(r"(?<![\w.'-])%s(?![\w'-])" % re.escape(m[1]), "c", e[m.end():])
+            e = e[: m.start()] + rest
 
     def helpers(self, e, goal):
         for h, place in self.typed.items():
@@ -152,6 +177,12 @@ class Turner:
         def one(m):
             parts = m[0].split(".")
             out = []
+            parts = [p for k, p in enumerate(parts) if not (k and p == "before")]
+            for old, new in self.arms:
+                for k in range(1, len(parts) - len(old) + 1):
+                    if parts[k : k + len(old)] == old:
+                        parts[k : k + len(old)] = new
+                        break
             for k, p in enumerate(parts):
                 if k and p == "before":
                     continue
@@ -192,7 +223,7 @@ class Turner:
         uses = [l for l in lines if l.startswith("use ") and ".Statement.{" not in l and not re.search(r"\.Tie as tie", l)]
         body = "\n".join(l for l in lines if not l.startswith("use ") and l not in comment[: 1] and not l.startswith("pub use"))
         # blocks: a signature and its clauses
-        blocks = re.split(r"\n(?=(?:--[^\n]*\n)*(?:abbrev |pub |unfoldable )*[^\s()=-]+ :)", "\n" + body)
+        blocks = re.split(r"\n(?=(?:--[^\n]*\n)*(?:abbrev |pub |unfoldable )*(?!--)[^\s()=]+ :)", "\n" + body)
         defs, order = {}, []
         for b in blocks:
             m = re.match(r"\s*((?:--[^\n]*\n)*)((?:abbrev |pub |unfoldable )*)([^\s()]+) :", b)
@@ -225,7 +256,8 @@ class Turner:
             self.said.append("%d answers for %d goals" % (len(args), len(needs)))
             return None
         answers = []
-        for a, (old, new) in zip(args, needs):
+        for a, (old, new), (where, _) in zip(args, needs, self.entry["asked_at"]):
+            self.at(where)
             signature = ""
             if a in defs:
                 d = defs[a]
@@ -241,8 +273,8 @@ class Turner:
                 note = ""
                 m = re.match(r"\((?:λ ((?:[\wκ]+ ?)+)\. ?)(.*)\)$", a, re.S)
                 e = m[2].strip() if m else a.strip("()")
-            e = self.helpers(self.paths(self.raw(e)), new)
-            if e in TRIVIAL:
+            e = self.helpers(self.paths(self.inlined(e)), new)
+            if e in TRIVIAL and not (e == "search rules" and (signature or unfold)) and not (e == "tt" and "requires" not in new):
                 continue
             names = []
             if old.startswith("returns"):
@@ -259,16 +291,42 @@ class Turner:
             text += "use Rattle.%s.proofs.%s.Goals.{%s}\n" % (self.crate, self.path.replace("/", "."), ", ".join(sorted(set(self.typed.values()))))
         for n in order:
             if n not in used and n not in invs and n != spec:
-                text += "\n" + self.paths(defs[n]) + "\n"
+                self.at(next((o for o, b in self.places.items() if b == self.typed.get(n)), None))
+                text += "\n" + self.paths(self.inlined(defs[n])) + "\n"
                 if "tie." in defs[n]:
                     self.said.append("helper %s has a type of tie" % n)
         for note, n, sig, e in answers:
             text += "\n" + (note + "\n" if note else "") + "pub %s : goal.%s\n" % (n, n)
             text += (sig + "\n") if sig else ""
             text += "%s c = %s\n" % (n, e) if "\n" not in e and len(e) < 100 else "%s c =\n    %s\n" % (n, e)
+        self.invariants = ""
         if invs:
-            loops = "\n".join(self.paths(defs[n]) for n in invs)
-            text += "\n-- TO INVARIANTS\n" + "\n".join("-- " + l for l in loops.split("\n")) + "\n"
+            self.invariants = "\n".join(uses) + ("\n" if uses else "")
+            self.invariants += "use Rattle.%s.proofs.%s.Given as goal\n" % (self.crate, self.path.replace("/", "."))
+            names = dict(x[0] for x in self.entry["loops"])
+            variables = {x[0][0]: x[1] for x in self.entry["loops"]}
+            for n in invs:
+                kind, old = n.split("-", 1)
+                if old not in names:
+                    self.said.append("no loop " + old)
+                    continue
+                m = re.search(r"^%s((?: [^\s=]+)*) =(.*)" % re.escape(n), defs[n], re.M | re.S)
+                binders, e = m[1].split(), self.paths(m[2].strip())
+                known = set(variables[old])
+
+                def variable(w):
+                    b = w[0]
+                    bare = b.rstrip("₀")
+                    if b not in binders:
+                        return b
+                    if bare not in known:
+                        self.said.append("variable %s of %s" % (b, n))
+                    return ("l.initial." if b.endswith("₀") else "l.") + bare
+
+                e = re.sub(r"(?<![\w.₀'«-])[^\W\d][\w'-]*₀?(?![\w'₀-])", variable, e)
+                sig = "".join(l + "\n" for l in re.findall(r"^unfolding [^\n]*", defs[n], re.M))
+                new = "%s-%s" % (kind, names[old])
+                self.invariants += "\nabbrev pub %s : goal.%s\n%s%s l =%s%s\n" % (new, new, sig, new, " " if len(e) < 90 and "\n" not in e else "\n    ", e)
         return text, bool(answers) or bool([n for n in order if n not in used and n not in invs and n != spec])
 
 
@@ -290,7 +348,10 @@ def main():
             continue
         text, some = got
         os.remove(p)
-        if some or "TO INVARIANTS" in text:
+        if t.invariants:
+            with open(os.path.join(os.path.dirname(p), "Invariants.antt"), "w", encoding="utf-8") as f:
+                f.write(t.invariants)
+        if some:
             with open(os.path.join(os.path.dirname(p), "Answers.antt"), "w", encoding="utf-8") as f:
                 f.write(text)
         elif not os.listdir(os.path.dirname(p)):

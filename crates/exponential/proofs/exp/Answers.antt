@@ -1,0 +1,42 @@
+-- `exponential::exp` meets its contract: each return is what the tests on the way to it pick.
+use lib.Ieee.{div, of_bits}
+use mir.Syntax.{w32}
+use mir.ValLaws.{to_z-of_z}
+use borrow.Author.Rules.{rules, sfits_of}
+use Rattle.exponential.specs.Exponential.Open.{exp_is}
+use Rattle.exponential.proofs.NearRange.{exp_exponent}
+use Rattle.exponential.proofs.exp.Goals as goal
+
+pub returns-then-y : goal.returns-then-y
+unfolding div of_bits
+returns-then-y c = rw (exp_is c.args.y, c.if-y.true)
+
+pub returns-then-y-2 : goal.returns-then-y-2
+unfolding div of_bits
+returns-then-y-2 c = rw (exp_is c.args.y, c.if-y.false, c.if-y-2.true)
+
+pub returns-then-y-3 : goal.returns-then-y-3
+unfolding div of_bits
+returns-then-y-3 c = rw (exp_is c.args.y, c.if-y.false, c.if-y-2.false, c.if-y-3.true)
+
+pub scaled-requires : goal.scaled-requires
+unfolding div of_bits
+scaled-requires c =
+    let n = c in
+    rw (to_z-of_z w32 n.near-k.result (sfits_of n.near-k.type_inv), n.near-k.ensures)
+    (exp_exponent _ n.if-y.false n.if-y-2.false n.if-y-3.false)
+
+pub returns : goal.returns
+unfolding div of_bits
+returns c =
+    let n = c in
+    rw (
+      exp_is n.args.y,
+      n.if-y.false,
+      n.if-y-2.false,
+      n.if-y-3.false,
+      c.scaled.ensures,
+      c.exp_sum.ensures,
+      to_z-of_z w32 n.near-k.result (sfits_of n.near-k.type_inv),
+      n.near-k.ensures,
+    )

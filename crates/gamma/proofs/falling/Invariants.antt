@@ -1,0 +1,16 @@
+use mathlib.Core.Path.{◌≡◌, refl}
+use mathlib.Core.Bool.{false}
+use Prim.Native.Nat.{ℕ, ◌+◌, ◌-◌}
+use native.Mathlib.Omega.{arith}
+use Rattle.floats.specs.Operations.{◌⊖◌, whole}
+use Rattle.floats.specs.Loops.{count_up}
+use Rattle.floats.proofs.Loops.{goes, stops, done}
+use Rattle.gamma.specs.Gamma.{product_turn, falling}
+use Rattle.gamma.proofs.falling.Given as goal
+
+abbrev pub invariant-loop-k : goal.invariant-loop-k
+invariant-loop-k l =
+    count_up (product_turn (λ (j : ℕ). l.z ⊖ whole j)) (l.m + 1 - l.k) l.k (false, l.r) ≡ falling l.z l.m
+
+abbrev pub decreases-loop-k : goal.decreases-loop-k
+decreases-loop-k l = l.m + 1 - l.k

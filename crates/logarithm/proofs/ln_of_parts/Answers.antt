@@ -1,0 +1,33 @@
+-- `logarithm::ln_of_parts` meets its contract: the test picks which of m and m / 2 is taken.
+use borrow.Author.Rules.{rules, sfits_of}
+use mir.Syntax.{w32}
+use mir.ValLaws.{to_z-of_z}
+use lib.IntN.{pos, ◌-ℤ◌}
+use Rattle.logarithm.specs.Logarithm.Open.{ln_of_parts_is}
+use Rattle.logarithm.proofs.LnCases.{next_exponent}
+use Rattle.logarithm.proofs.ln_of_parts.Goals as goal
+
+pub returns-then-m : goal.returns-then-m
+returns-then-m c =
+    let d = c in
+    let s = d in
+    rw (
+      ln_of_parts_is s.args.m (pos s.args.field -ℤ pos s.args.bias),
+      ← next_exponent s.args.field s.args.bias,
+      d.if-m.true,
+      c.ln_near_one.ensures,
+      to_z-of_z w32 d.exponent.result (sfits_of d.exponent.type_inv),
+      d.exponent.ensures,
+    )
+
+pub returns : goal.returns
+returns c =
+    let d = c in
+    let s = d in
+    rw (
+      ln_of_parts_is s.args.m (pos s.args.field -ℤ pos s.args.bias),
+      d.if-m.false,
+      c.ln_near_one-2.ensures,
+      to_z-of_z w32 d.exponent-2.result (sfits_of d.exponent-2.type_inv),
+      d.exponent-2.ensures,
+    )

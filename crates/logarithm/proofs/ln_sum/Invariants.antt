@@ -1,0 +1,15 @@
+use mathlib.Core.Path.{◌≡◌, sym}
+use Prim.Native.Nat.{◌-◌, ◌≤◌}
+use native.Mathlib.Omega.{arith}
+use borrow.Author.Rules.{rules}
+use Rattle.floats.specs.Loops.{down_to}
+use Rattle.floats.proofs.Countdown.{turns, ends}
+use Rattle.logarithm.specs.Logarithm.{ln_term, ln_sum}
+use Rattle.logarithm.specs.Logarithm.Open.{ln_sum_is}
+use Rattle.logarithm.proofs.ln_sum.Given as goal
+
+abbrev pub invariant-loop-j : goal.invariant-loop-j
+invariant-loop-j l = (l.j ≤ 13) × (down_to (ln_term l.z) 0 (l.j - 0) l.a ≡ ln_sum l.z)
+
+abbrev pub decreases-loop-j : goal.decreases-loop-j
+decreases-loop-j l = l.j

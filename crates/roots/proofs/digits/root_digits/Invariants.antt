@@ -1,0 +1,9 @@
+use Rattle.std.proofs.Common.{arith}
+use Rattle.roots.proofs.RootDigits.{Found, found_none, partial, found_next, found_all}
+use Rattle.roots.proofs.digits.root_digits.Given as goal
+
+abbrev pub invariant-loop-left : goal.invariant-loop-left
+invariant-loop-left l = Found l.radicand l.s.rest l.s.root l.s.remainder l.left
+
+abbrev pub decreases-loop-left : goal.decreases-loop-left
+decreases-loop-left l = l.left

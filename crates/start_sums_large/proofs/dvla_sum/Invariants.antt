@@ -1,0 +1,15 @@
+use mathlib.Core.Path.{◌≡◌, refl, ap}
+use mathlib.Core.Bool.{false}
+use Prim.Native.Nat.{◌-◌}
+use native.Mathlib.Omega.{arith}
+use lib.Ieee.{Float}
+use Rattle.floats.specs.Loops.{count_up}
+use Rattle.floats.proofs.Loops.{goes, stops, done}
+use Rattle.start_sums_large.specs.StartSums.{dvla_turn, dvla_sum}
+use Rattle.start_sums_large.proofs.dvla_sum.Given as goal
+
+abbrev pub invariant-loop-k : goal.invariant-loop-k
+invariant-loop-k l = count_up (dvla_turn l.x l.va) (17 - l.k) l.k (false, (l.r, l.pd)) ≡ dvla_sum l.x l.va
+
+abbrev pub decreases-loop-k : goal.decreases-loop-k
+decreases-loop-k l = 17 - l.k

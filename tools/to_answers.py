@@ -138,6 +138,7 @@ class Turner:
                     self.callee[b] = fn
         self.places = {p[0]: n for p, n in zip(entry["places"], entry["places_by_name"])}
         self.every = dict(self.steps)
+        self.old = {p[2][0] for p in entry["places"]}
         self.arms = []
         self.said, self.typed = [], {}
 
@@ -178,6 +179,7 @@ class Turner:
             parts = m[0].split(".")
             out = []
             parts = [p for k, p in enumerate(parts) if not (k and p == "before")]
+            parts = parts[:1] + [p.replace("-", "_") if p.replace("-", "_") in self.old else p for p in parts[1:]]
             for old, new in self.arms:
                 for k in range(1, len(parts) - len(old) + 1):
                     if parts[k : k + len(old)] == old:
@@ -188,7 +190,7 @@ class Turner:
                     continue
                 if k and p == "type-inv":
                     p = "type_inv"
-                if k and p in self.steps:
+                if k == 1 and parts[0] == "c" and p in self.steps:
                     p = self.steps[p]
                 if k and p.isdigit() and out[-1] in ("ensures", "requires"):
                     if out[-1] == "requires" and self.entry.get("pre"):
@@ -274,7 +276,9 @@ class Turner:
                 m = re.match(r"\((?:λ ((?:[\wκ]+ ?)+)\. ?)(.*)\)$", a, re.S)
                 e = m[2].strip() if m else a.strip("()")
             e = self.helpers(self.paths(self.inlined(e)), new)
-            if e in TRIVIAL and not (e == "search rules" and (signature or unfold)) and not (e == "tt" and "requires" not in new):
+            if e in TRIVIAL and not (e == "search rules" and (signature or unfold)) and not (e == "tt" and new.startswith("returns")):
+                continue
+            if new.startswith("enum_told"):
                 continue
             names = []
             if old.startswith("returns"):

@@ -3,7 +3,7 @@
 #![tactic(auto)]
 
 // The value and the derivative, or the number of the refusal.
-#[derive(Drop)]
+#[derive(Clone, Copy)]
 pub enum Answer {
     Pair(f64, f64),
     Refused(u8),

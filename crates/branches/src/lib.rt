@@ -12,7 +12,7 @@ use signs::abs;
 
 // How the rungs are worked out: upward from rungs 0 and 1, downward from rungs n and n - 1, or downward from far above
 // n and then scaled.
-#[derive(Drop)]
+#[derive(Clone, Copy)]
 pub enum Branch {
     Forward,
     Downward,

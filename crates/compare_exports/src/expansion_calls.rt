@@ -8,7 +8,7 @@ ghost use Rattle.expansion_elementary.specs.Mantissas.{mantissas};
 
 // The sums of u_s and of v_s.
 #[repr(C)]
-#[derive(Drop)]
+#[derive(Clone, Copy)]
 pub struct ComparedSums {
     pub u: f64,
     pub v: f64,
@@ -16,7 +16,7 @@ pub struct ComparedSums {
 
 // D and its derivative as mantissas with one exponent.
 #[repr(C)]
-#[derive(Drop)]
+#[derive(Clone, Copy)]
 pub struct ComparedMantissas {
     pub value: f64,
     pub derivative: f64,

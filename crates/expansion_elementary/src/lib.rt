@@ -11,7 +11,7 @@ use logarithm::ln;
 use roots::square_root;
 
 // D and its derivative as mantissas with one exponent: value * e^exponent and derivative * e^exponent.
-#[derive(Drop)]
+#[derive(Clone, Copy)]
 pub struct Mantissas {
     pub value: f64,
     pub derivative: f64,

@@ -12,7 +12,7 @@ ghost use Rattle.expansion_polynomials.specs.Polynomials.{in_squares, uv_poly, u
 use expansion_coefficients::COEFFICIENTS;
 
 // The sums of u_s and of v_s.
-#[derive(Drop)]
+#[derive(Clone, Copy)]
 pub struct Sums {
     pub u: f64,
     pub v: f64,

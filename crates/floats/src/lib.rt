@@ -3,7 +3,7 @@
 #![tactic(auto)]
 
 // Which function: D is DLMF's U, by its order.
-#[derive(Drop)]
+#[derive(Clone, Copy)]
 pub enum Function {
     D,
     V,

@@ -11,7 +11,7 @@ pub use ladders::{ladder_in, reply_of};
 
 // Refusal 0: answered. On a refusal the two numbers are NaN.
 #[repr(C)]
-#[derive(Drop)]
+#[derive(Clone, Copy)]
 pub struct GozhnerimAnswer {
     pub refusal: u32,
     pub value: f64,
@@ -21,7 +21,7 @@ pub struct GozhnerimAnswer {
 // A state. Function 1 is D, 2 is V, and any other number makes it empty; below_zero is 0 from order 0 on; value_below
 // is rung n - 1, value_top rung n.
 #[repr(C)]
-#[derive(Drop)]
+#[derive(Clone, Copy)]
 pub struct GozhnerimLadder {
     pub function: u32,
     pub below_zero: u32,
@@ -35,7 +35,7 @@ pub struct GozhnerimLadder {
 
 // A reply. On a refusal the count is 0, the two numbers are NaN and the ladder is the one that came.
 #[repr(C)]
-#[derive(Drop)]
+#[derive(Clone, Copy)]
 pub struct GozhnerimReply {
     pub ladder: GozhnerimLadder,
     pub refusal: u32,

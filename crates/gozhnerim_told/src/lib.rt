@@ -15,7 +15,7 @@ pub use orders::order_of;
 // slot num + k of a table; table_slots is 2 num, value_slots n + 1, derivative_slots n; rung k has the order f + k, or f - k
 // where v < 0. On a refusal all other numbers are 0 and f is NaN.
 #[repr(C)]
-#[derive(Drop)]
+#[derive(Clone, Copy)]
 pub struct GozhnerimOrder {
     pub refusal: u32,
     pub below_zero: u32,

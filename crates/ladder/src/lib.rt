@@ -16,14 +16,14 @@ use order::Rung;
 use tables::Answer;
 
 // How many rungs a request wrote; a refusal has no count.
-#[derive(Drop)]
+#[derive(Clone, Copy)]
 pub enum Written {
     Count(Rung),
     Nothing,
 }
 
 // What a request gives: the next state, the answer, and the written count.
-#[derive(Drop)]
+#[derive(Clone, Copy)]
 pub struct Reply {
     pub state: Ladder,
     pub answer: Answer,

@@ -14,7 +14,7 @@ use tables::Answer;
 
 // What comes of P11: the four written counts, the answer at order 4, and value 4 and derivative 4 as the tables hold
 // them at the end.
-#[derive(Drop)]
+#[derive(Clone, Copy)]
 pub struct FourRequests {
     pub first: Written,
     pub second: Written,

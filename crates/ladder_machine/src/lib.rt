@@ -14,7 +14,7 @@ use floats::Function;
 use order::{Rung, Size};
 
 // A ladder's fields, its two values left out.
-#[derive(Drop)]
+#[derive(Clone, Copy)]
 pub struct Held {
     pub function: Function,
     pub below: bool,
@@ -24,7 +24,7 @@ pub struct Held {
 }
 
 // What comes of a request: the number of its refusal; or the case, with the new n, and for a climb the n held before.
-#[derive(Drop)]
+#[derive(Clone, Copy)]
 pub enum Judgement {
     Refused(u8),
     Repeat(Rung),

@@ -11,7 +11,7 @@ ghost use Rattle.ladder_reader.specs.Columns.{named, first_slots};
 pub use numbers::column_length;
 
 // One of the two tables.
-#[derive(Drop)]
+#[derive(Clone, Copy)]
 pub enum Column {
     Values,
     Derivatives,

@@ -13,7 +13,7 @@ use rungs::Sequence;
 
 // The state: function, side (v < 0 or not), argument, fraction of the order, n, and the values of rungs n - 1 and n. It
 // counts as empty where n is 0 or above 1000, x or f is NaN, or the size of f is 1 or more.
-#[derive(Drop)]
+#[derive(Clone, Copy)]
 pub struct Ladder {
     pub function: Function,
     pub below: bool,

@@ -14,7 +14,7 @@ use signs::abs;
 const SCALE: f64 = 4.149515568880993e180;
 
 // The sums of the series: d of w(x), dp of w'(x).
-#[derive(Drop)]
+#[derive(Clone, Copy)]
 struct Sums {
     d: f64,
     dp: f64,

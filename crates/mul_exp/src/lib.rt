@@ -9,7 +9,7 @@ use exponential::exp;
 use signs::abs;
 
 // Two numbers, each times e^e.
-#[derive(Drop)]
+#[derive(Clone, Copy)]
 pub struct Both {
     pub first: f64,
     pub second: f64,

@@ -5,7 +5,7 @@ ghost use Rattle.std.specs.Prelude.{◌-◌, ◌^◌, ◌<◌, ◌≤◌};
 ghost use Rattle.roots.specs.Steps.{Partial, NextDigit, WholeRoot, NearestWhole};
 
 // The digits of the radicand still to come, the root of those passed, and what its square leaves of them.
-#[derive(Drop)]
+#[derive(Clone, Copy)]
 struct Digits {
     rest: u64,
     root: u64,

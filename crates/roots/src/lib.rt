@@ -23,7 +23,7 @@ use digits::nearest_by_digits;
 use guess::root_guess;
 
 // significand * 2^exponent.
-#[derive(Drop)]
+#[derive(Clone, Copy)]
 struct Scaled {
     significand: u64,
     exponent: u64,

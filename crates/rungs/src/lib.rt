@@ -10,7 +10,7 @@ use floats::Function;
 pub use start::{seed, start_rungs, start_value, top_rungs};
 
 // Which rungs: a function, at the orders f + k, or f - k where `below`, for k = 0, 1, 2, .., and at the argument x.
-#[derive(Drop)]
+#[derive(Clone, Copy)]
 pub struct Sequence {
     pub function: Function,
     pub below: bool,
@@ -19,7 +19,7 @@ pub struct Sequence {
 }
 
 // Values of two neighbouring rungs: `low` that of the lower number.
-#[derive(Drop)]
+#[derive(Clone, Copy)]
 pub struct Adjacent {
     pub low: f64,
     pub high: f64,

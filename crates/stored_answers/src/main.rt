@@ -16,7 +16,7 @@ use libc::STDOUT_FILENO;
 use stored_records::one_unless;
 
 // How many records were replayed, and how many of them differ.
-#[derive(Drop)]
+#[derive(Clone, Copy)]
 pub struct Tally {
     pub records: u64,
     pub differences: u64,

@@ -9,7 +9,7 @@ ghost use Rattle.std.specs.Float.{binary64};
 ghost use Rattle.floats.specs.Operations.{bits};
 ghost use Rattle.stored_records.specs.Words.{half_at, word_at, missed};
 
-#[derive(Drop)]
+#[derive(Clone, Copy)]
 pub struct Record {
     pub number: u64,
     pub x: f64,

@@ -27,6 +27,7 @@ def clause_names():
                 depth += {"(": 1, ")": -1}.get(text[i], 0)
                 i += 1
             req, ens = [], []
+            lent = re.findall(r"(\w+)\s*:\s*&(?:'\w+ )?mut\b", text[m.end():i])
             while True:
                 k = re.match(r"\s*(?:->\s*[^{;]*?(?=\s*(?:requires|ensures|\{)))?\s*(requires|ensures)\s*(\w*)\s*\{", text[i:])
                 if not k:
@@ -37,7 +38,7 @@ def clause_names():
                     depth += {"{": 1, "}": -1}.get(text[j], 0)
                     j += 1
                 i = j
-            found["::".join([crate] + mods + [m[1]])] = (req, ens)
+            found["::".join([crate] + mods + [m[1]])] = (req, ens, lent)
     return found
 
 
@@ -192,15 +193,30 @@ class Turner:
                     p = "type_inv"
                 if k == 1 and parts[0] == "c" and p in self.steps:
                     p = self.steps[p]
-                if k and p.isdigit() and out[-1] in ("ensures", "requires"):
-                    if out[-1] == "requires" and self.entry.get("pre"):
-                        p = self.entry["pre"]["fields"][int(p)]
-                    elif len(out) > 1 and out[-2] in self.callee:
-                        names = self.clauses.get(self.callee[out[-2]], ([], []))[out[-1] == "ensures"]
-                        if len(names) > int(p):
-                            p = names[int(p)]
+                if p == "":
+                    continue
+                if k and p.isdigit() and out[-1] in ("ensures", "requires", "new") and len(out) > 1:
+                    names = []
+                    if out[-1] == "requires" and len(out) == 2 and self.entry.get("pre"):
+                        names = self.entry["pre"]["fields"]
+                    elif out[-2] in self.callee:
+                        names = (self.clauses.get(self.callee[out[-2]], ([], [], [])) + ([],))[("requires", "ensures", "new", "auto").index(out[-1])] or self.clauses.get(self.callee[out[-2]], ([], [], []))[2]
+                    digits = [q for q in parts[k:]]
+                    n = len(names)
+                    if out[-1] in ("new", "auto") and int(p) < n:
+                        p = names[int(p)]
+                    elif n > 1:
+                        i = 0
+                        while i < n - 2 and i < len(digits) and digits[i] == "1":
+                            i += 1
+                        if i < len(digits) and digits[i] in ("0", "1"):
+                            p = names[i + int(digits[i])]
+                            for j in range(k + 1, k + i + 1):
+                                parts[j] = ""
                         else:
-                            self.said.append("clause %s of %s" % (p, self.callee[out[-2]]))
+                            self.said.append("a clause of " + m[0])
+                    else:
+                        self.said.append("a clause of " + m[0])
                 out.append(p)
             return ".".join(out)
 

@@ -1,0 +1,18 @@
+use mathlib.Core.Path.{◌≡◌, refl, sym}
+use Prim.Native.Nat.{◌+◌, ◌-◌, ◌≤◌}
+use native.Mathlib.Nat.{sub_self, sub-zero}
+use native.Mathlib.Omega.{arith}
+use lib.ListN.{length, length-set}
+use Rattle.rungs.specs.Rungs.{descent}
+use Rattle.rungs.proofs.Laws.{descent_top, descent_above}
+use Rattle.slots.specs.Slots.{filled}
+use Rattle.value_column.proofs.Turns.{lowered_turn, lowered_slot}
+use Rattle.value_column.proofs.downward.descend.Given as goal
+
+abbrev pub invariant-loop-k : goal.invariant-loop-k
+invariant-loop-k l =
+    (l.k ≤ l.top) × (length l.t ≡ length l.initial.t) × (l.a ≡ descent l.sequence l.top l.low l.high l.k) × (l.b ≡ descent l.sequence l.top l.low l.high (l.k + 1))
+    × (l.t ≡ filled (descent l.sequence l.top l.low l.high) l.k l.k (l.top - l.k) l.initial.t)
+
+abbrev pub decreases-loop-k : goal.decreases-loop-k
+decreases-loop-k l = l.k

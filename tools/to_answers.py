@@ -121,6 +121,8 @@ def parts_of(t, n):
         return p
     if len(p) == 2 and n > 2:
         rest = parts_of(p[1], n - 1)
+        if not rest and re.match(r"^[\w.'-]+$", p[1]):
+            rest = [p[1] + ".1" * i + ".0" for i in range(n - 2)] + [p[1] + ".1" * (n - 2)]
         return [p[0]] + rest if rest else None
     return None
 
@@ -166,8 +168,15 @@ class Turner:
         while True:
             m = re.search(r"let ([\w-]+) = c((?:\.before)*) in\s*", e)
             if not m:
-                return e
-            rest = re.sub(r"(?<![\w.'-])%s(?![\w'-])" % re.escape(m[1]), "c", e[m.end():])
+                for m in re.finditer(r"let ([\w-]+) = (c(?:\.before)*\.[\w-]+) in\s*", e):
+                    if re.search(r"(?<![\w.'-])%s\.(ensures|requires|new|auto)\.\d" % re.escape(m[1]), e):
+                        rest = re.sub(r"(?<![\w.'-])%s(?![\w'-])" % re.escape(m[1]), m[2], e[m.end():])
+                        e = e[: m.start()] + rest
+                        break
+                else:
+                    return e
+                continue
+            rest = re.sub(r"(?<![\w.'-])%s(?![\w'-])" % re.escape(m[1]), "c" + m[2], e[m.end():])
             e = e[: m.start()] + rest
 
     def helpers(self, e, goal):
@@ -262,13 +271,13 @@ class Turner:
         while args and args[0] in defs and re.search(r": tie\.(invariant|decreases)", defs[args[0]]):
             invs.append(args.pop(0))
         for n in order:
-            m = re.search(r": \(c : tie\.([\w-]+)(?: [\w-]+)*\) →", defs[n])
+            m = re.search(r": \(c : tie\.([\w-]+)(?: [\w-]+)*\)\s+→", defs[n])
             if m and n not in invs and n != spec:
                 old = m[1]
                 place = self.places.get(old) or self.places.get(old.replace("-", "_")) or {a.replace("_", "-"): b for a, b in self.places.items()}.get(old)
                 if place:
                     self.typed[n] = place
-                    defs[n] = re.sub(r"\(c : tie\.[\w-]+(?: [\w-]+)*\) →", "(c : %s) →" % place, defs[n], 1)
+                    defs[n] = re.sub(r"\(c : tie\.[\w-]+(?: [\w-]+)*\)(\s+)→", r"(c : %s)\1→" % place, defs[n], 1)
         needs = self.entry["needs"]
         if len(args) != len(needs):
             self.said.append("%d answers for %d goals" % (len(args), len(needs)))
@@ -312,7 +321,10 @@ class Turner:
         for n in order:
             if n not in used and n not in invs and n != spec:
                 self.at(next((o for o, b in self.places.items() if b == self.typed.get(n)), None))
-                text += "\n" + self.paths(self.inlined(defs[n])) + "\n"
+                d = self.inlined(defs[n])
+                for h in self.typed:
+                    d = re.sub(r"(?<![\w.-])(%s) c((?:\.before)*)(?![\w.])" % re.escape(h), lambda m: m[1] + " c" + m[2].replace("before", "BEFORE"), d)
+                text += "\n" + self.paths(d).replace("BEFORE", "before") + "\n"
                 if "tie." in defs[n]:
                     self.said.append("helper %s has a type of tie" % n)
         for note, n, sig, e in answers:

@@ -6,6 +6,8 @@ use borrow.Author.Rules.{rules}
 use lib.Dec.{T}
 use lib.ListN.{length}
 use lib.Ieee.{binary64, fits}
+use Rattle.std.proofs.Common.{ℕ, List, ltb, Float}
+use Rattle.table_refusals.specs.Refusals.{refusal_by}
 use Rattle.order.specs.Order.{below, shifted, fraction_of, top_rung, num}
 use Rattle.order.specs.Facts.{Split}
 use Rattle.order.proofs.Facts.{split_facts}
@@ -16,22 +18,19 @@ use Rattle.tables.proofs.Calls.{refusal_short, accepted, left_as_found, settled}
 use Rattle.tables.proofs.table.Goals as goal
 use Rattle.tables.proofs.table.Goals.{Else-number-ne0}
 
-number : (c : tie.After-refusal-by)
-    → let g = c.args in
-    c.refusal_by-number.result ≡ refusal g.v g.x (length g.t.now)
-number c =
-    let g = c.args in
-    rw c.num-num.ensures at c.refusal_by-number.ensures ∙ refusal_short g.v g.x (length g.t.now)
+-- the number that the call gives is the refusal's
+number : (v x : Float) (l : List Float) (m r : ℕ) → m ≡ num v → r ≡ refusal_by v x (ltb (length l) (2 * m)) → r ≡ refusal v x (length l)
+number v x l m r e h = rw e at h ∙ refusal_short v x (length l)
 
-ok : (c : tie.Else1)
+ok : (c : Else-number-ne0)
     → let g = c.args in
     refusal g.v g.x (length g.t.now) ≡ 0
-ok c = sym (number c) ∙ c.if-number-ne0.false
+ok c = sym (number _ _ _ _ _ c.num-num.ensures c.refusal_by-number.ensures) ∙ c.if-number-ne0.false
 
 order-fits : (c : Else-number-ne0) → T (fits binary64 c.args.v)
 order-fits c = search rules
 
-facts : (c : tie.Else1)
+facts : (c : Else-number-ne0)
     → let v = c.args.v in
     Split (below v) (shifted v) (fraction_of v) (top_rung v) (num v)
 facts c =
@@ -39,40 +38,37 @@ facts c =
     let a = accepted g.v g.x (length g.t.now) (ok c) in
     split_facts g.v (record { number = a.0; small = a.2; fit = order-fits c })
 
-room : (c : tie.After-split)
-    → let g = c.args in
-    (1 ≤ c.split-o.result.n) × (c.split-o.result.n ≤ 1000) × (c.split-o.result.n < c.num-num.result) × (3 ≤ c.num-num.result)
-    × (2 * c.num-num.result ≤ length g.t.now)
-room c =
-    let g = c.args in
-    let f = facts c in
-    rw (c.split-o.ensures.top, c.num-num.ensures)
-    (f.least, f.most, f.room, num_least g.v, (accepted g.v g.x (length g.t.now) (ok c)).3)
+-- n and num, as the calls found them
+room : (v x : Float) (slots n m : ℕ) → refusal v x slots ≡ 0 → Split (below v) (shifted v) (fraction_of v) (top_rung v) (num v)
+    → n ≡ top_rung v → m ≡ num v → (1 ≤ n) × (n ≤ 1000) × (n < m) × (3 ≤ m) × (2 * m ≤ slots)
+room v x slots n m k f top e = rw (top, e) (f.least, f.most, f.room, num_least v, (accepted v x slots k).3)
 
 pub returns-then-number-ne0 : goal.returns-then-number-ne0
 unfolding refusal_of pair_of
 returns-then-number-ne0 c =
     let g = c.args in
-    let p = left_as_found g.function g.v g.x g.t.now c.refusal_by-number.result (number c) c.if-number-ne0.true in
-    record { number = number c; pair = p.0; after = p.1 }
+    let e : c.refusal_by-number.result ≡ refusal g.v g.x (length g.t.now) = number _ _ _ _ _ c.num-num.ensures c.refusal_by-number.ensures in
+    let p = left_as_found g.function g.v g.x g.t.now c.refusal_by-number.result e c.if-number-ne0.true in
+    record { number = e; pair = p.0; after = p.1 }
 
 pub pair_at-requires : goal.pair_at-requires
 pair_at-requires c =
-    let r = room c in
-    record { some = r.0; room = rw c.fill_table.auto.0 (omega (arith, r)) }
+    let g = c.args in
+    let at = (goal.at.pair_at-requires c).Else-number-ne0 in
+    let r = room g.v g.x (length g.t.now) _ _ (ok at) (facts at) c.split-o.ensures.top c.num-num.ensures in
+    record { some = r.0; room = rw c.fill_table.auto.t (omega (arith, r)) }
 
 pub returns : goal.returns
 returns c =
     let g = c.args in
-    let s = c.split-o in
-    let p = settled g.function g.v g.x g.t.now (ok c) (facts c) s.result.below s.result.u s.result.f s.result.n c.num-num.result
+    let p = settled g.function g.v g.x g.t.now (ok (goal.at.returns c).Else-number-ne0) (facts (goal.at.returns c).Else-number-ne0) c.split-o.result.below c.split-o.result.u c.split-o.result.f c.split-o.result.n c.num-num.result
     c.fill_table.new.t
     (pair_of c.pair_at.result)
-    s.ensures.0
-    s.ensures.1.0
-    s.ensures.1.1.0
-    s.ensures.1.1.1
+    c.split-o.ensures.side
+    c.split-o.ensures.shifted
+    c.split-o.ensures.fraction
+    c.split-o.ensures.top
     c.num-num.ensures
     c.fill_table.ensures
     c.pair_at.ensures.pair in
-    (c.pair_at.ensures.number ∙ sym (ok c), p)
+    record { number = c.pair_at.ensures.number ∙ sym (ok (goal.at.returns c).Else-number-ne0); pair = p.0; after = p.1 }

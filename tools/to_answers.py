@@ -139,6 +139,7 @@ class Turner:
                 self.steps[a.replace("_", "-")] = b
                 if fn:
                     self.callee[b] = fn
+        self.renamed = {p[2][1]: dict(p[4]) for p in entry["places"] if p[4]}
         self.places = {p[0]: n for p, n in zip(entry["places"], entry["places_by_name"])}
         self.every = dict(self.steps)
         self.old = {p[2][0] for p in entry["places"]}
@@ -169,7 +170,9 @@ class Turner:
             m = re.search(r"let ([\w-]+) = c((?:\.before)*) in\s*", e)
             if not m:
                 for m in re.finditer(r"let ([\w-]+) = (c(?:\.before)*\.[\w-]+) in\s*", e):
-                    if re.search(r"(?<![\w.'-])%s\.(ensures|requires|new|auto)\.\d" % re.escape(m[1]), e):
+                    if re.search(r"(?<![\w.'-])%s\.(ensures|requires|new|auto)\.\d" % re.escape(m[1]), e) or (
+                        m[2].endswith(".requires") and re.search(r"(?<![\w.'-])%s\.\d" % re.escape(m[1]), e)
+                    ):
                         rest = re.sub(r"(?<![\w.'-])%s(?![\w'-])" % re.escape(m[1]), m[2], e[m.end():])
                         e = e[: m.start()] + rest
                         break
@@ -204,6 +207,8 @@ class Turner:
                     p = self.steps[p]
                 if p == "":
                     continue
+                if k == 2 and parts[0] == "c" and p in self.renamed.get(out[-1], {}):
+                    p = self.renamed[out[-1]][p]
                 if k and p.isdigit() and out[-1] in ("ensures", "requires", "new") and len(out) > 1:
                     names = []
                     if out[-1] == "requires" and len(out) == 2 and self.entry.get("pre"):
@@ -227,9 +232,19 @@ class Turner:
                     else:
                         self.said.append("a clause of " + m[0])
                 out.append(p)
+            if len(out) > 2 and out[-1] == "ensures" and out[-2] in self.callee:
+                names = self.clauses.get(self.callee[out[-2]], ([], [], []))[1]
+                if len(names) > 1:
+                    each = [".".join(out) + "." + q for q in names]
+                    last = each.pop()
+                    while each:
+                        last = "(%s, %s)" % (each.pop(), last)
+                    return last
             return ".".join(out)
 
-        return re.sub(r"(?<![\w.«»-])[^\W\d][\w'₀-]*(?:\.[\w'«»₀-]+)+", one, e)
+        e = re.sub(r"(?<![\w.«»-])[^\W\d][\w'₀-]*(?:\.[\w'«»₀-]+)+", one, e)
+        # of !b the test now says what b is
+        return re.sub(r"not-(?:true|false) (?:[\w.-]+|\([^()]*(?:\([^()]*\))?[^()]*\)) (c\.if-not-[\w-]+?)\.(true|false)(?:-raw)?(?![\w-])", r"\1.\2", e)
 
     def record(self, e, names):
         head, tail = head_and_tail(e)

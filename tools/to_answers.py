@@ -27,7 +27,7 @@ def clause_names():
                 depth += {"(": 1, ")": -1}.get(text[i], 0)
                 i += 1
             req, ens = [], []
-            lent = re.findall(r"(\w+)\s*:\s*&(?:'\w+ )?mut\b", text[m.end():i])
+            lent = re.findall(r"(\w+)\s*:\s*&", text[m.end():i])
             while True:
                 k = re.match(r"\s*(?:->\s*[^{;]*?(?=\s*(?:requires|ensures|\{)))?\s*(requires|ensures)\s*(\w*)\s*\{", text[i:])
                 if not k:
@@ -209,7 +209,7 @@ class Turner:
                     continue
                 if k == 2 and parts[0] == "c" and p in self.renamed.get(out[-1], {}):
                     p = self.renamed[out[-1]][p]
-                if k and p.isdigit() and out[-1] in ("ensures", "requires", "new") and len(out) > 1:
+                if k and p.isdigit() and out[-1] in ("ensures", "requires", "new", "auto") and len(out) > 1:
                     names = []
                     if out[-1] == "requires" and len(out) == 2 and self.entry.get("pre"):
                         names = self.entry["pre"]["fields"]
@@ -217,8 +217,14 @@ class Turner:
                         names = (self.clauses.get(self.callee[out[-2]], ([], [], [])) + ([],))[("requires", "ensures", "new", "auto").index(out[-1])] or self.clauses.get(self.callee[out[-2]], ([], [], []))[2]
                     digits = [q for q in parts[k:]]
                     n = len(names)
-                    if out[-1] in ("new", "auto") and int(p) < n:
-                        p = names[int(p)]
+                    if out[-1] in ("new", "auto"):
+                        i = 0
+                        while i < len(digits) and digits[i] == "1":
+                            i += 1
+                        if i < n:
+                            p = names[i]
+                            for j in range(k + 1, k + i + 1):
+                                parts[j] = ""
                     elif n > 1:
                         i = 0
                         while i < n - 2 and i < len(digits) and digits[i] == "1":
@@ -251,8 +257,10 @@ class Turner:
         if len(names) < 2:
             return e
         p = parts_of(tail, len(names))
-        if p is None and len(names) == 2 and re.match(r"[\w(]", tail) and "∙" not in tail and not tail.startswith("record"):
-            p = ["(%s).0" % tail, "(%s).1" % tail]
+        if p is None and re.match(r"[\w(]", tail) and "∙" not in atoms(tail) and not re.match("(record|rw|simp|subst|elim)\\b", tail):
+            head = (head + "\n    " if head else "") + "let both = %s in" % tail
+            n = len(names)
+            p = ["both" + ".1" * i + ".0" for i in range(n - 1)] + ["both" + ".1" * (n - 1)]
         if p is None:
             self.said.append("no tuple of %d parts: %s" % (len(names), tail[:60].replace("\n", " ")))
             return e
@@ -266,11 +274,15 @@ class Turner:
         body = "\n".join(l for l in lines if not l.startswith("use ") and l not in comment[: 1] and not l.startswith("pub use"))
         # blocks: a signature and its clauses
         blocks = re.split(r"\n(?=(?:--[^\n]*\n)*(?:abbrev |pub |unfoldable )*(?!--)[^\s()=]+ :)", "\n" + body)
-        defs, order = {}, []
+        defs, order, pending = {}, [], ""
         for b in blocks:
+            b = pending + b.lstrip("\n") if pending else b
+            pending = ""
             m = re.match(r"\s*((?:--[^\n]*\n)*)((?:abbrev |pub |unfoldable )*)([^\s()]+) :", b)
             if not m:
-                if b.strip():
+                if b.strip() and all(l.startswith("--") for l in b.strip().split("\n")):
+                    pending = b.strip() + "\n"
+                elif b.strip():
                     self.said.append("a block is left out: " + b.strip()[:60])
                 continue
             defs[m[3]] = b.strip("\n")

@@ -3,12 +3,8 @@ use native.Mathlib.Omega.{arith}
 use Rattle.answer.specs.Answer.{refusal_of, pair_of}
 use Rattle.ladder.specs.Ladder.{written_of, given_by, answered}
 use Rattle.ladder.specs.Ladder.Open.{pair_from_is}
-use Rattle.ladder.proofs.actions.answer.Statement.{statement}
-use Rattle.ladder.proofs.actions.answer.Tie as tie
+use Rattle.ladder.proofs.actions.answer.Goals as goal
 
-returns : tie.Need-returns
+pub returns : goal.returns
 unfolding given_by answered refusal_of pair_of written_of
-returns c = rw (pair_from_is _, c.derivative.ensures)
-
-pub answer_spec : {M : Type 1} → statement M
-answer_spec = tie.close (tie.spec (λ c. omega arith) (λ c κs. tt) returns)
+returns c = rw (pair_from_is _, c.derivative-d.ensures)

@@ -3,12 +3,8 @@ use Rattle.answer.specs.Answer.{refusal_of, pair_of}
 use Rattle.ladder_machine.specs.Machine.{refused_by, effect}
 use Rattle.ladder_machine.proofs.Laws.{refuses_count}
 use Rattle.ladder.specs.Ladder.{written_of, given_by, pair_then, given_on}
-use Rattle.ladder.proofs.actions.refuse.Statement.{statement}
-use Rattle.ladder.proofs.actions.refuse.Tie as tie
+use Rattle.ladder.proofs.actions.refuse.Goals as goal
 
-returns : tie.Need-returns
+pub returns : goal.returns
 unfolding given_by given_on refusal_of pair_of written_of refused_by effect pair_then
 returns c = rw (refuses_count _)
-
-pub refuse_spec : {M : Type 1} → statement M
-refuse_spec = tie.close (tie.spec returns)

@@ -169,10 +169,10 @@ class Turner:
         while True:
             m = re.search(r"let ([\w-]+) = c((?:\.before)*) in\s*", e)
             if not m:
-                for m in re.finditer(r"let ([\w-]+) = (c(?:\.before)*\.[\w-]+) in\s*", e):
+                for m in re.finditer(r"let ([\w-]+) = (c(?:\.before)*\.[\w-]+(?:\.ensures)?) in\s*", e):
                     if re.search(r"(?<![\w.'-])%s\.(ensures|requires|new|auto)\.\d" % re.escape(m[1]), e) or (
-                        m[2].endswith(".requires") and re.search(r"(?<![\w.'-])%s\.\d" % re.escape(m[1]), e)
-                    ):
+                        m[2].endswith((".requires", ".ensures")) and re.search(r"(?<![\w.'-])%s\.\d" % re.escape(m[1]), e)
+                    ) or re.search(r"= %s\.ensures in" % re.escape(m[1]), e):
                         rest = re.sub(r"(?<![\w.'-])%s(?![\w'-])" % re.escape(m[1]), m[2], e[m.end():])
                         e = e[: m.start()] + rest
                         break

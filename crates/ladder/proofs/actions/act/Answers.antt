@@ -1,10 +1,5 @@
 -- `ladder::actions::act` meets its contract: each arm's action is the clause of what the machine says.
-use mathlib.Core.Path.{◌≡◌, ap}
-use Prim.Native.Nat.{◌≤◌, ◌<◌}
-use native.Mathlib.Omega.{arith}
-use borrow.Author.Rules.{rules}
-use lib.Dec.{T}
-use lib.ListN.{length}
+use Rattle.std.proofs.Common.{◌≡◌, ap, ◌≤◌, ◌<◌, arith, rules, length, T}
 use lib.Ieee.{binary64, fits}
 use Rattle.order.specs.Order.{top_rung}
 use Rattle.ladder_machine.specs.Machine.{asks, refusal, refuses, repeats, climbs, starts_over}
@@ -12,33 +7,33 @@ use Rattle.ladder_machine.specs.Held.{verdict_of}
 use Rattle.ladder_climb.proofs.Room.{room_above_law}
 use Rattle.ladder.proofs.Outcomes.{repeat_held, climb_room, start_room, refused_outcome, repeated_outcome, climbed_outcome, started_outcome, climbed_n, state_n}
 use Rattle.ladder.proofs.actions.act.Goals as goal
-use Rattle.ladder.proofs.actions.act.Goals.{In-Climb-2, In-Refused-2, In-Repeat-2, In-StartOver-2}
+use Rattle.ladder.proofs.actions.act.Goals.{In-Refused, In-Repeat, In-Climb, In-StartOver}
 
 -- the judgement, in the machine's words
-refuses-told : (c : In-Refused-2) → verdict_of c.args.judgement ≡ refuses c.in-Refused.number
+refuses-told : (c : In-Refused) → verdict_of c.args.judgement ≡ refuses c.in-Refused.number
 unfolding verdict_of
 refuses-told c = ap verdict_of c.in-Refused.is
 
-repeats-told : (c : In-Repeat-2) → verdict_of c.args.judgement ≡ repeats c.in-Repeat.n
+repeats-told : (c : In-Repeat) → verdict_of c.args.judgement ≡ repeats c.in-Repeat.n
 unfolding verdict_of
 repeats-told c = ap verdict_of c.in-Repeat.is
 
-climbs-told : (c : In-Climb-2) → verdict_of c.args.judgement ≡ climbs c.in-Climb.from c.in-Climb.to
+climbs-told : (c : In-Climb) → verdict_of c.args.judgement ≡ climbs c.in-Climb.from c.in-Climb.to
 unfolding verdict_of
 climbs-told c = ap verdict_of c.in-Climb.is
 
-starts-told : (c : In-StartOver-2) → verdict_of c.args.judgement ≡ starts_over c.in-StartOver.n
+starts-told : (c : In-StartOver) → verdict_of c.args.judgement ≡ starts_over c.in-StartOver.n
 unfolding verdict_of
 starts-told c = ap verdict_of c.in-StartOver.is
 
-climb-fits : (c : In-Climb-2) → T (fits binary64 c.args.v)
+climb-fits : (c : In-Climb) → T (fits binary64 c.args.v)
 climb-fits c = search rules
 
-start_fits : (c : In-StartOver-2) → T (fits binary64 c.args.v)
-start_fits c = search rules
+start-fits : (c : In-StartOver) → T (fits binary64 c.args.v)
+start-fits c = search rules
 
 -- room for a climb, and for a start-over
-climbs-in : (c : In-Climb-2)
+climbs-in : (c : In-Climb)
     → let g = c.args in
     let n = c.in-Climb.to in
     (1 ≤ g.s.n) × (g.s.n < n) × (n ≤ 1000) × (n < length g.values.now) × (n ≤ length g.derivatives.now) × (g.s.n ≡ c.in-Climb.from)
@@ -46,73 +41,64 @@ climbs-in c =
     let g = c.args in
     climb_room g.s (asks g.function g.v g.x) g.values.now g.derivatives.now (verdict_of g.judgement) c.requires (climb-fits c) _ _ (climbs-told c)
 
-starts-in : (c : In-StartOver-2)
+starts-in : (c : In-StartOver)
     → let g = c.args in
     let n = c.in-StartOver.n in
     (refusal (asks g.function g.v g.x) (length g.values.now) (length g.derivatives.now) ≡ 0) × (top_rung g.v ≡ n) × (1 ≤ n) × (n ≤ 1000)
 starts-in c =
     let g = c.args in
-    start_room g.s (asks g.function g.v g.x) g.values.now g.derivatives.now (verdict_of g.judgement) c.requires (start_fits c) _ (starts-told c)
+    start_room g.s (asks g.function g.v g.x) g.values.now g.derivatives.now (verdict_of g.judgement) c.requires (start-fits c) _ (starts-told c)
 
-repeats-held : (c : In-Repeat-2)
+repeats-held : (c : In-Repeat)
     → let g = c.args in
     (1 ≤ g.s.n) × (g.s.n ≡ c.in-Repeat.n)
 repeats-held c =
     let g = c.args in
     repeat_held g.s (asks g.function g.v g.x) g.values.now g.derivatives.now (verdict_of g.judgement) c.requires _ (repeats-told c)
 
-pub enum_known-judgement : goal.enum_known-judgement
-enum_known-judgement c = c.in-Refused-own.keys1
-
-pub enum_known-judgement-in-Repeat-1 : goal.enum_known-judgement-in-Repeat-1
-enum_known-judgement-in-Repeat-1 c = c.in-Repeat-own.keys2
-
 pub answer-requires : goal.answer-requires
-answer-requires c = (repeats-held (goal.at.answer-requires c).In-Repeat-2).0
-
-pub enum_known-judgement-in-Climb-1 : goal.enum_known-judgement-in-Climb-1
-enum_known-judgement-in-Climb-1 c = c.in-Climb-own.keys3
+answer-requires c = (repeats-held (goal.at.answer-requires c).In-Repeat).0
 
 pub climb-requires : goal.climb-requires
 climb-requires c =
-    let r = climbs-in (goal.at.climb-requires c).In-Climb-2 in room_above_law _ _ _ _ r.0 (omega (arith, r)) r.2 r.3 r.4
+    let r = climbs-in (goal.at.climb-requires c).In-Climb in
+    room_above_law _ _ _ _ r.0 (omega (arith, r)) r.2 r.3 r.4
 
 pub overflow_sub-to : goal.overflow_sub-to
-overflow_sub-to c = omega (arith, climbs-in (goal.at.overflow_sub-to c).In-Climb-2)
+overflow_sub-to c = omega (arith, climbs-in (goal.at.overflow_sub-to c).In-Climb)
 
 pub answer-requires-in-Climb : goal.answer-requires-in-Climb
 answer-requires-in-Climb c =
-    let r = climbs-in (goal.at.answer-requires-in-Climb c).In-Climb-2 in
+    let r = climbs-in (goal.at.answer-requires-in-Climb c).In-Climb in
     rw (c.climb.ensures.state, climbed_n _ _) (omega (arith, r))
 
-pub enum_known-judgement-in-StartOver-1 : goal.enum_known-judgement-in-StartOver-1
-enum_known-judgement-in-StartOver-1 c = c.in-StartOver-own.keys4
-
 pub start_over-requires : goal.start_over-requires
-start_over-requires c = (starts-in (goal.at.start_over-requires c).In-StartOver-2).0
+start_over-requires c = (starts-in (goal.at.start_over-requires c).In-StartOver).0
 
 pub overflow_add-n : goal.overflow_add-n
-overflow_add-n c = omega (arith, starts-in (goal.at.overflow_add-n c).In-StartOver-2)
+overflow_add-n c = omega (arith, starts-in (goal.at.overflow_add-n c).In-StartOver)
 
 pub answer-requires-in-StartOver : goal.answer-requires-in-StartOver
 answer-requires-in-StartOver c =
-    let r = starts-in (goal.at.answer-requires-in-StartOver c).In-StartOver-2 in
+    let r = starts-in (goal.at.answer-requires-in-StartOver c).In-StartOver in
     rw (c.start_over.ensures.state, state_n _ _) (omega (arith, r))
 
 pub returns-in-Refused : goal.returns-in-Refused
-returns-in-Refused c =
-    refused_outcome _ _ _ _ _ _ _ (refuses-told (goal.at.returns-in-Refused c).In-Refused-2) c.refuse.ensures
+returns-in-Refused c = refused_outcome _ _ _ _ _ _ _ (refuses-told (goal.at.returns-in-Refused c).In-Refused) c.refuse.ensures
 
 pub returns-in-Repeat : goal.returns-in-Repeat
 returns-in-Repeat c =
-    repeated_outcome _ _ _ _ _ _ _ (repeats-told (goal.at.returns-in-Repeat c).In-Repeat-2) (repeats-held (goal.at.returns-in-Repeat c).In-Repeat-2).0 (repeats-held (goal.at.returns-in-Repeat c).In-Repeat-2).1 c.answer.ensures
+    let told = (goal.at.returns-in-Repeat c).In-Repeat in
+    repeated_outcome _ _ _ _ _ _ _ (repeats-told told) (repeats-held told).0 (repeats-held told).1 c.answer.ensures
 
 pub returns-in-Climb : goal.returns-in-Climb
 returns-in-Climb c =
-    let e = (c.climb.ensures.state, (c.climb.ensures.values, c.climb.ensures.derivatives)) in
-    climbed_outcome _ _ _ _ _ _ _ _ _ _ _ (climbs-told (goal.at.returns-in-Climb c).In-Climb-2) (climbs-in (goal.at.returns-in-Climb c).In-Climb-2).5 e.0 e.1.0 e.1.1 c.answer-in-Climb.ensures
+    let told = (goal.at.returns-in-Climb c).In-Climb in
+    let e = c.climb.ensures in
+    climbed_outcome _ _ _ _ _ _ _ _ _ _ _ (climbs-told told) (climbs-in told).5 e.state e.values e.derivatives c.answer-in-Climb.ensures
 
 pub returns-in-StartOver : goal.returns-in-StartOver
 returns-in-StartOver c =
-    let e = (c.start_over.ensures.state, (c.start_over.ensures.values, c.start_over.ensures.derivatives)) in
-    started_outcome _ _ _ _ _ _ _ _ _ _ (starts-told (goal.at.returns-in-StartOver c).In-StartOver-2) (starts-in (goal.at.returns-in-StartOver c).In-StartOver-2).1 e.0 e.1.0 e.1.1 c.answer-in-StartOver.ensures
+    let told = (goal.at.returns-in-StartOver c).In-StartOver in
+    let e = c.start_over.ensures in
+    started_outcome _ _ _ _ _ _ _ _ _ _ (starts-told told) (starts-in told).1 e.state e.values e.derivatives c.answer-in-StartOver.ensures

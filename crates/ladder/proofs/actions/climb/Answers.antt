@@ -11,5 +11,4 @@ returns c =
     let r = sequence.result in
     let l = g.values.now in
     let d = g.derivatives.now in
-    let e = (c.climb-held.ensures.top, (c.climb-held.ensures.values, c.climb-held.ensures.derivatives)) in
-    record { state = c.state_of.ensures ∙ climbed_state g.s r g.top l d sequence.ensures c.requires c.climb-held.result.low c.climb-held.result.high e.0; values = climbed_values_law g.s r g.top l d sequence.ensures c.requires c.climb-held.new.values e.1.0; derivatives = climbed_derivatives_law g.s r g.top l d sequence.ensures c.requires c.climb-held.new.derivatives e.1.1 }
+    record { state = c.state_of.ensures ∙ climbed_state g.s r g.top l d sequence.ensures c.requires c.climb-held.result.low c.climb-held.result.high c.climb-held.ensures.top; values = climbed_values_law g.s r g.top l d sequence.ensures c.requires c.climb-held.new.values c.climb-held.ensures.values; derivatives = climbed_derivatives_law g.s r g.top l d sequence.ensures c.requires c.climb-held.new.derivatives c.climb-held.ensures.derivatives }

@@ -36,17 +36,14 @@ pub returns : goal.returns
 unfolding slot
 returns c =
     let g = c.args in
-    let s = c.split-o in
     let q = asks g.function g.v g.x in
     let l = g.values.now in
     let d = g.derivatives.now in
     let l1 = c.fill_columns.new.values in
     let d1 = c.fill_columns.new.derivatives in
-    let e = s.ensures in
-    let f = (c.fill_columns.ensures.values, c.fill_columns.ensures.derivatives) in
     record {
       state = c.state_of.ensures
-          ∙ started_state q l d (order-fits (goal.at.returns c).After-split-o) c.requires s.result.below s.result.u s.result.f s.result.n l1 d1 e.0 e.1.0 e.1.1.0 e.1.1.1 f.0 f.1;
-      values = started_values q l d (order-fits (goal.at.returns c).After-split-o) c.requires s.result.below s.result.u s.result.f s.result.n l1 d1 e.0 e.1.0 e.1.1.0 e.1.1.1 f.0 f.1;
-      derivatives = started_derivatives q l d (order-fits (goal.at.returns c).After-split-o) c.requires s.result.below s.result.u s.result.f s.result.n l1 d1 e.0 e.1.0 e.1.1.0 e.1.1.1 f.0 f.1;
+          ∙ started_state q l d (order-fits (goal.at.returns c).After-split-o) c.requires c.split-o.result.below c.split-o.result.u c.split-o.result.f c.split-o.result.n l1 d1 c.split-o.ensures.side c.split-o.ensures.shifted c.split-o.ensures.fraction c.split-o.ensures.top c.fill_columns.ensures.values c.fill_columns.ensures.derivatives;
+      values = started_values q l d (order-fits (goal.at.returns c).After-split-o) c.requires c.split-o.result.below c.split-o.result.u c.split-o.result.f c.split-o.result.n l1 d1 c.split-o.ensures.side c.split-o.ensures.shifted c.split-o.ensures.fraction c.split-o.ensures.top c.fill_columns.ensures.values c.fill_columns.ensures.derivatives;
+      derivatives = started_derivatives q l d (order-fits (goal.at.returns c).After-split-o) c.requires c.split-o.result.below c.split-o.result.u c.split-o.result.f c.split-o.result.n l1 d1 c.split-o.ensures.side c.split-o.ensures.shifted c.split-o.ensures.fraction c.split-o.ensures.top c.fill_columns.ensures.values c.fill_columns.ensures.derivatives;
     }

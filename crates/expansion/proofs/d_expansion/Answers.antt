@@ -1,0 +1,19 @@
+-- `expansion::d_expansion` meets its contract: the refusal's number decides, and an accepted request answers the pair.
+use mathlib.Core.Path.{sym, ◌∙◌, ap}
+use mathlib.Core.Option.{some}
+use Rattle.answer.specs.Answer.{refusal_of, pair_of}
+use Rattle.answer.proofs.Laws.{refused, answered}
+use Rattle.expansion.specs.Expansion.Open.{answer_is, pair_is}
+use Rattle.expansion.proofs.d_expansion.Goals as goal
+
+pub returns-then-number-ne0 : goal.returns-then-number-ne0
+unfolding refusal_of pair_of
+returns-then-number-ne0 c =
+    let r = c.refusal-number.ensures in
+    record { number = r; pair = rw (answer_is, ← r, refused _ _ c.if-number-ne0.true) }
+
+pub returns : goal.returns
+unfolding refusal_of pair_of
+returns c =
+    let r = sym c.refusal-number.ensures ∙ c.if-number-ne0.false in
+    record { number = sym r; pair = rw (answer_is, answered _ _ r) (ap some (pair_is _ _ _ _ _ _ _ (c.pbdv_elementary-m.ensures.value, (c.pbdv_elementary-m.ensures.derivative, c.pbdv_elementary-m.ensures.exponent)) (c.mul_exp_both-d.ensures.first, c.mul_exp_both-d.ensures.second))) }

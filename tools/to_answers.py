@@ -330,7 +330,7 @@ class Turner:
             e = self.helpers(self.paths(self.inlined(e)), new)
             if e in TRIVIAL and not (e == "search rules" and (signature or unfold)) and not (e == "tt" and new.startswith("returns")):
                 continue
-            if new.startswith("enum_told"):
+            if new.startswith(("enum_told", "enum_known")):
                 continue
             names = []
             if old.startswith("returns"):

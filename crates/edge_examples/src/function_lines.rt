@@ -1,43 +1,44 @@
 // The functions below the tables.
 
 use crate::printing;
+use std::io;
 
-fn line(text: &[u8], x: f64) {
-    printing::name(text);
-    printing::number(x);
-    printing::end();
+fn line(rt: &HostRuntime, text: &str, x: f64) -> io::Result<()> {
+    printing::name(rt, text)?;
+    printing::number(rt, x)?;
+    printing::end(rt)
 }
 
 // P1 to P4.
-pub fn examples() {
-    line(b"P1 exp(0)", exponential::exp(0.0));
-    line(b"P2 gamma2(5)", gamma::gamma2(5.0));
-    line(b"P3 gamma2(-3)", gamma::gamma2(-3.0));
-    line(b"P4 dvsa(0, 1)", start_sums_small::dvsa(0.0, 1.0));
-    line(b"P4 dvsa(0, 0)", start_sums_small::dvsa(0.0, 0.0));
+pub fn examples(rt: &HostRuntime) -> io::Result<()> {
+    line(rt, "P1 exp(0)", exponential::exp(0.0))?;
+    line(rt, "P2 gamma2(5)", gamma::gamma2(5.0))?;
+    line(rt, "P3 gamma2(-3)", gamma::gamma2(-3.0))?;
+    line(rt, "P4 dvsa(0, 1)", start_sums_small::dvsa(0.0, 1.0))?;
+    line(rt, "P4 dvsa(0, 0)", start_sums_small::dvsa(0.0, 0.0))
 }
 
 // The sine at whole quarter turns.
-pub fn sines() {
+pub fn sines(rt: &HostRuntime) -> io::Result<()> {
     let pi = 3.141592653589793;
-    line(b"sin(-0.5 pi)", trigonometric::sin(-0.5 * pi));
-    line(b"sin(-1.5 pi)", trigonometric::sin(-1.5 * pi));
-    line(b"sin(-1001.5 pi)", trigonometric::sin(-1001.5 * pi));
-    line(b"sin(1001.5 pi)", trigonometric::sin(1001.5 * pi));
+    line(rt, "sin(-0.5 pi)", trigonometric::sin(-0.5 * pi))?;
+    line(rt, "sin(-1.5 pi)", trigonometric::sin(-1.5 * pi))?;
+    line(rt, "sin(-1001.5 pi)", trigonometric::sin(-1001.5 * pi))?;
+    line(rt, "sin(1001.5 pi)", trigonometric::sin(1001.5 * pi))
 }
 
 // V's start sum at whole orders, where the sine keeps 1e300 out.
-pub fn whole_orders() {
-    line(b"vvsa(1, 3)", start_sums_small::vvsa(1.0, 3.0));
-    line(b"vvsa(0, 2)", start_sums_small::vvsa(0.0, 2.0));
+pub fn whole_orders(rt: &HostRuntime) -> io::Result<()> {
+    line(rt, "vvsa(1, 3)", start_sums_small::vvsa(1.0, 3.0))?;
+    line(rt, "vvsa(0, 2)", start_sums_small::vvsa(0.0, 2.0))
 }
 
 // The maximum at NaN: by itself, and in a series whose terms become NaN.
-pub fn maxima() {
+pub fn maxima(rt: &HostRuntime) -> io::Result<()> {
     let nan = 0.0 / 0.0;
-    line(b"max(NaN, 1)", extremes::max(nan, 1.0));
-    line(b"max(1, NaN)", extremes::max(1.0, nan));
-    printing::name(b"maclaurin(1e300, 1e10, 1, -1, 0)");
-    printing::answer(maclaurin::maclaurin(1e300, 1e10, 1.0, -1.0, 0.0));
-    printing::end();
+    line(rt, "max(NaN, 1)", extremes::max(nan, 1.0))?;
+    line(rt, "max(1, NaN)", extremes::max(1.0, nan))?;
+    printing::name(rt, "maclaurin(1e300, 1e10, 1, -1, 0)")?;
+    printing::answer(rt, maclaurin::maclaurin(1e300, 1e10, 1.0, -1.0, 0.0))?;
+    printing::end(rt)
 }

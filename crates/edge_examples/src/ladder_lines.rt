@@ -5,137 +5,152 @@ use crate::printing;
 use floats::Function;
 use ladder::Written;
 use ladder_states::Ladder;
+use std::io;
 
 // One request; gives the next ladder.
 fn line(
-    text: &[u8],
+    rt: &HostRuntime,
+    text: &str,
     held: Ladder,
     function: Function,
     v: f64,
     x: f64,
     values: &mut [f64],
     derivatives: &mut [f64],
-) -> Ladder {
+) -> io::Result<Ladder> {
     let reply = ladder::request(held, function, v, x, values, derivatives);
     let state = reply.state;
     let answer = reply.answer;
     let written = reply.written;
-    printing::name(text);
+    printing::name(rt, text)?;
     match written {
-        Written::Count(count) => printing::whole(count),
+        Written::Count(count) => printing::whole(rt, count)?,
         Written::Nothing => (),
     }
-    printing::answer(answer);
-    printing::slots(values);
-    printing::slots(derivatives);
-    printing::end();
-    state
+    printing::answer(rt, answer)?;
+    printing::slots(rt, values)?;
+    printing::slots(rt, derivatives)?;
+    printing::end(rt)?;
+    Ok(state)
 }
 
 // P11.
-pub fn examples() {
+pub fn examples(rt: &HostRuntime) -> io::Result<()> {
     let mut values = [-2.5; 6];
     let mut derivatives = [-2.5; 5];
     let a = line(
-        b"P11 D 2 0",
+        rt,
+        "P11 D 2 0",
         ladder_states::empty(),
         Function::D,
         2.0,
         0.0,
         &mut values,
         &mut derivatives,
-    );
+    )?;
     let b = line(
-        b"P11 D 4 0",
+        rt,
+        "P11 D 4 0",
         a,
         Function::D,
         4.0,
         0.0,
         &mut values,
         &mut derivatives,
-    );
+    )?;
     let c = line(
-        b"P11 D 4 0",
+        rt,
+        "P11 D 4 0",
         b,
         Function::D,
         4.0,
         0.0,
         &mut values,
         &mut derivatives,
-    );
+    )?;
     line(
-        b"P11 D 2 0",
+        rt,
+        "P11 D 2 0",
         c,
         Function::D,
         2.0,
         0.0,
         &mut values,
         &mut derivatives,
-    );
+    )?;
+    Ok(())
 }
 
 // No climb from n = 1, where V's value 2 is not the recurrence's.
-pub fn starts() {
+pub fn starts(rt: &HostRuntime) -> io::Result<()> {
     let mut values = [-2.5; 6];
     let mut derivatives = [-2.5; 5];
     let a = line(
-        b"V -2^-60 1",
+        rt,
+        "V -2^-60 1",
         ladder_states::empty(),
         Function::V,
         -8.673617379884035e-19,
         1.0,
         &mut values,
         &mut derivatives,
-    );
+    )?;
     line(
-        b"V -1 1",
+        rt,
+        "V -1 1",
         a,
         Function::V,
         -1.0,
         1.0,
         &mut values,
         &mut derivatives,
-    );
+    )?;
+    Ok(())
 }
 
 // A climb after a refused request, and then P12's order, which has the n of order 1.
-pub fn climbs() {
+pub fn climbs(rt: &HostRuntime) -> io::Result<()> {
     let mut values = [-2.5; 6];
     let mut derivatives = [-2.5; 5];
     let a = line(
-        b"V -1 1",
+        rt,
+        "V -1 1",
         ladder_states::empty(),
         Function::V,
         -1.0,
         1.0,
         &mut values,
         &mut derivatives,
-    );
+    )?;
     let b = line(
-        b"V -6 1",
+        rt,
+        "V -6 1",
         a,
         Function::V,
         -6.0,
         1.0,
         &mut values,
         &mut derivatives,
-    );
+    )?;
     let c = line(
-        b"V -4 1",
+        rt,
+        "V -4 1",
         b,
         Function::V,
         -4.0,
         1.0,
         &mut values,
         &mut derivatives,
-    );
+    )?;
     line(
-        b"D 1-2^-53 0.5",
+        rt,
+        "D 1-2^-53 0.5",
         c,
         Function::D,
         0.9999999999999999,
         0.5,
         &mut values,
         &mut derivatives,
-    );
+    )?;
+    Ok(())
 }

@@ -1,46 +1,42 @@
 // A line is a name, and the bits of numbers in hexadecimal digits; a NaN is the word.
 
 use answer::Answer;
-use libc::STDOUT_FILENO;
+use std::io;
 
-pub fn name(text: &[u8]) {
-    io::write_all(STDOUT_FILENO, text);
-    io::write_all(STDOUT_FILENO, b":");
+pub fn name(rt: &HostRuntime, text: &str) -> io::Result<()> {
+    print!(rt; "{text}:")
 }
 
-pub fn number(x: f64) {
+pub fn number(rt: &HostRuntime, x: f64) -> io::Result<()> {
     if x != x {
-        io::write_all(STDOUT_FILENO, b" NaN");
-        return;
+        return print!(rt; " NaN");
     }
-    io::write_all(STDOUT_FILENO, b" ");
-    io::print_hex(STDOUT_FILENO, f64::to_bits(x), 16);
+    print!(rt; " {:016x}", f64::to_bits(x))
 }
 
-pub fn whole(n: u32) {
-    io::write_all(STDOUT_FILENO, b" ");
-    io::print_decimal(STDOUT_FILENO, n as u64);
+pub fn whole(rt: &HostRuntime, n: u32) -> io::Result<()> {
+    print!(rt; " {n}")
 }
 
-pub fn end() {
-    io::write_all(STDOUT_FILENO, b"\n");
+pub fn end(rt: &HostRuntime) -> io::Result<()> {
+    println!(rt; "")
 }
 
 // The refusal's number, and the pair where there is one.
-pub fn answer(a: Answer) {
+pub fn answer(rt: &HostRuntime, a: Answer) -> io::Result<()> {
     match a {
         Answer::Pair(value, derivative) => {
-            whole(0);
-            number(value);
-            number(derivative);
+            whole(rt, 0)?;
+            number(rt, value)?;
+            number(rt, derivative)
         }
-        Answer::Refused(n) => whole(n as u32),
+        Answer::Refused(n) => whole(rt, n as u32),
     }
 }
 
-pub fn slots(t: &[f64]) {
-    let end = t.len();
-    for k in 0..end {
-        number(t[k]);
+pub fn slots(rt: &HostRuntime, t: &[f64]) -> io::Result<()> {
+    for x in t {
+        number(rt, *x)?;
     }
+    Ok(())
 }

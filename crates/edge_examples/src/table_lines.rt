@@ -4,6 +4,7 @@ ghost use Rattle.std.specs.Prelude.{◌≡◌, length};
 
 use crate::printing;
 use floats::Function;
+use std::io;
 
 // As many slots as any order needs.
 fn all_slots() -> [f64; 2004]
@@ -13,48 +14,65 @@ fn all_slots() -> [f64; 2004]
 }
 
 // A line for a lent table, and whether its slots are printed.
-fn line_of(text: &[u8], function: Function, v: f64, x: f64, slots: &mut [f64], shown: bool) {
-    printing::name(text);
-    printing::answer(tables::table(function, v, x, slots));
+fn line_of(
+    rt: &HostRuntime,
+    text: &str,
+    function: Function,
+    v: f64,
+    x: f64,
+    slots: &mut [f64],
+    shown: bool,
+) -> io::Result<()> {
+    printing::name(rt, text)?;
+    printing::answer(rt, tables::table(function, v, x, slots))?;
     if shown {
-        printing::slots(slots);
+        printing::slots(rt, slots)?;
     }
-    printing::end();
+    printing::end(rt)
 }
 
 // A line for a table of `len` slots.
-fn line(text: &[u8], function: Function, v: f64, x: f64, len: usize) {
+fn line(
+    rt: &HostRuntime,
+    text: &str,
+    function: Function,
+    v: f64,
+    x: f64,
+    len: usize,
+) -> io::Result<()> {
     let mut slots = all_slots();
     if len <= slots.len() {
-        line_of(text, function, v, x, &mut slots[..len], len < 2000);
+        line_of(rt, text, function, v, x, &mut slots[..len], len < 2000)?;
     }
+    Ok(())
 }
 
 // P5 to P10, and P12's order.
-pub fn examples() {
-    line(b"P5 D 0 0, 5 slots", Function::D, 0.0, 0.0, 5);
-    line(b"P5 D 0 0, 6 slots", Function::D, 0.0, 0.0, 6);
-    line(b"P6 D 1 0", Function::D, 1.0, 0.0, 8);
-    line(b"P7 D 2 0", Function::D, 2.0, 0.0, 10);
-    line(b"P8 V -1 0", Function::V, -1.0, 0.0, 8);
-    line(b"P9 D 1000 0", Function::D, 1000.0, 0.0, 2004);
-    line(b"P10 D 999.5 0, 2003 slots", Function::D, 999.5, 0.0, 2003);
-    line(b"P10 D 999.5 0, 2004 slots", Function::D, 999.5, 0.0, 2004);
+pub fn examples(rt: &HostRuntime) -> io::Result<()> {
+    line(rt, "P5 D 0 0, 5 slots", Function::D, 0.0, 0.0, 5)?;
+    line(rt, "P5 D 0 0, 6 slots", Function::D, 0.0, 0.0, 6)?;
+    line(rt, "P6 D 1 0", Function::D, 1.0, 0.0, 8)?;
+    line(rt, "P7 D 2 0", Function::D, 2.0, 0.0, 10)?;
+    line(rt, "P8 V -1 0", Function::V, -1.0, 0.0, 8)?;
+    line(rt, "P9 D 1000 0", Function::D, 1000.0, 0.0, 2004)?;
+    line(rt, "P10 D 999.5 0, 2003 slots", Function::D, 999.5, 0.0, 2003)?;
+    line(rt, "P10 D 999.5 0, 2004 slots", Function::D, 999.5, 0.0, 2004)?;
     line(
-        b"P12 D 1-2^-53 0.5",
+        rt,
+        "P12 D 1-2^-53 0.5",
         Function::D,
         0.9999999999999999,
         0.5,
         6,
-    );
+    )
 }
 
 // The derivatives' place, the cut below 0, V at whole orders, and V's value 2.
-pub fn slips() {
-    line(b"D 0.25 1.5", Function::D, 0.25, 1.5, 7);
-    line(b"D -1.5 1", Function::D, -1.5, 1.0, 8);
-    line(b"V -1.5 -1", Function::V, -1.5, -1.0, 8);
-    line(b"V 3 1", Function::V, 3.0, 1.0, 12);
-    line(b"V 3 -1", Function::V, 3.0, -1.0, 12);
-    line(b"V -2^-60 1", Function::V, -8.673617379884035e-19, 1.0, 6);
+pub fn slips(rt: &HostRuntime) -> io::Result<()> {
+    line(rt, "D 0.25 1.5", Function::D, 0.25, 1.5, 7)?;
+    line(rt, "D -1.5 1", Function::D, -1.5, 1.0, 8)?;
+    line(rt, "V -1.5 -1", Function::V, -1.5, -1.0, 8)?;
+    line(rt, "V 3 1", Function::V, 3.0, 1.0, 12)?;
+    line(rt, "V 3 -1", Function::V, 3.0, -1.0, 12)?;
+    line(rt, "V -2^-60 1", Function::V, -8.673617379884035e-19, 1.0, 6)
 }

@@ -12,7 +12,7 @@ mod tables_answer;
 ghost use Rattle.std.specs.Prelude.{◌≡◌, ◌+◌, ◌/◌, length};
 ghost use Rattle.stored_answers.specs.Answers.{differing, left_over};
 
-use libc::STDOUT_FILENO;
+use std::{fs, io};
 use stored_records::one_unless;
 
 // How many records were replayed, and how many of them differ.
@@ -43,54 +43,17 @@ fn replay(s: &[u8]) -> Tally
     }
 }
 
-// The next records of the file, as many as one buffer holds, and none at its end. No contract can say what is read.
-fn replay_some(fd: i32) -> Tally {
-    let mut buf = io::large_buffer();
-    let n = io::read_full(fd, &mut buf);
-    replay(&buf[..n])
+// Replays one file and prints its line. No contract can say what is read.
+fn report(rt: &HostRuntime, path: &str, name: &str) -> io::Result<()> {
+    let records = fs::read(rt, path)?;
+    let t = replay(&records);
+    println!(rt; "{name}: {} answers, {} differences", t.records, t.differences)
 }
 
-// The sums over the file, up to 4,096 buffers of it.
-fn replay_all(fd: i32) -> Tally {
-    let mut records: u64 = 0;
-    let mut differences: u64 = 0;
-    let mut turns: u32 = 4096;
-    while turns > 0 {
-        let t = replay_some(fd);
-        records = std::num::wrapping_add_u64(records, t.records);
-        differences = std::num::wrapping_add_u64(differences, t.differences);
-        turns -= 1;
-        if t.records == 0 {
-            turns = 0;
-        }
-    }
-    Tally {
-        records: records,
-        differences: differences,
-    }
-}
-
-// Replays one file and prints its line.
-fn report(path: &[u8], name: &[u8]) {
-    let fd = os::open_read(path);
-    if fd < 0 {
-        os::fail(path);
-        return;
-    }
-    let t = replay_all(fd);
-    libc::close(fd);
-    io::write_all(STDOUT_FILENO, name);
-    io::write_all(STDOUT_FILENO, b": ");
-    io::print_decimal(STDOUT_FILENO, t.records);
-    io::write_all(STDOUT_FILENO, b" answers, ");
-    io::print_decimal(STDOUT_FILENO, t.differences);
-    io::write_all(STDOUT_FILENO, b" differences\n");
-}
-
-fn main() {
-    report(b"floats.bin", b"floats");
-    report(b"elementary.bin", b"elementary");
-    report(b"start_sums.bin", b"start_sums");
-    report(b"tables.bin", b"tables");
-    report(b"expansion.bin", b"expansion");
+fn main(rt: HostRuntime) -> io::Result<()> {
+    report(&rt, "floats.bin", "floats")?;
+    report(&rt, "elementary.bin", "elementary")?;
+    report(&rt, "start_sums.bin", "start_sums")?;
+    report(&rt, "tables.bin", "tables")?;
+    report(&rt, "expansion.bin", "expansion")
 }

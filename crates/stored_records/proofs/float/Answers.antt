@@ -7,8 +7,7 @@ use lib.Dec.{T}
 use lib.Ieee.{nan, binary64, nan_bits, of_bits, div}
 use lib.Ieee.Bits.{nan_bits_is, nan_bits_above}
 use Rattle.signs.proofs.Signs.{no_number}
-use Rattle.stored_records.proofs.float.Statement.{statement}
-use Rattle.stored_records.proofs.float.Tie as tie
+use Rattle.stored_records.proofs.float.Goals as goal
 
 quotient : div binary64 (of_bits binary64 0) (of_bits binary64 0) ≡ nan
 unfolding div of_bits
@@ -20,5 +19,11 @@ above n h = sym (no_number (of_bits binary64 n) (sym (nan_bits_is binary64 n) �
 not-above : (n : ℕ) → n % 9223372036854775808 ≤ 9218868437227405312 → T (not (nan_bits binary64 n))
 not-above n h = rw (nan_bits_above binary64 n, le-ltb 9218868437227405312 (n % 9223372036854775808) h) tt
 
-pub float_spec : {M : Type 1} → statement M
-float_spec = tie.close (tie.spec (λ c. quotient ∙ above c.before.args.bits c.if1.true) (λ c. not-above c.before.args.bits c.if1.false) (λ c. refl))
+pub returns-then-bits-gt9218868437227405312 : goal.returns-then-bits-gt9218868437227405312
+returns-then-bits-gt9218868437227405312 c = quotient ∙ above c.args.bits c.if-bits-gt9218868437227405312.true
+
+pub float_from_bits-result : goal.float_from_bits-result
+float_from_bits-result c = not-above c.args.bits c.if-bits-gt9218868437227405312.false
+
+pub returns : goal.returns
+returns c = refl

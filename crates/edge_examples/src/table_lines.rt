@@ -55,8 +55,22 @@ pub fn examples(rt: &HostRuntime) -> io::Result<()> {
     line(rt, "P7 D 2 0", Function::D, 2.0, 0.0, 10)?;
     line(rt, "P8 V -1 0", Function::V, -1.0, 0.0, 8)?;
     line(rt, "P9 D 1000 0", Function::D, 1000.0, 0.0, 2004)?;
-    line(rt, "P10 D 999.5 0, 2003 slots", Function::D, 999.5, 0.0, 2003)?;
-    line(rt, "P10 D 999.5 0, 2004 slots", Function::D, 999.5, 0.0, 2004)?;
+    line(
+        rt,
+        "P10 D 999.5 0, 2003 slots",
+        Function::D,
+        999.5,
+        0.0,
+        2003,
+    )?;
+    line(
+        rt,
+        "P10 D 999.5 0, 2004 slots",
+        Function::D,
+        999.5,
+        0.0,
+        2004,
+    )?;
     line(
         rt,
         "P12 D 1-2^-53 0.5",
@@ -74,5 +88,12 @@ pub fn slips(rt: &HostRuntime) -> io::Result<()> {
     line(rt, "V -1.5 -1", Function::V, -1.5, -1.0, 8)?;
     line(rt, "V 3 1", Function::V, 3.0, 1.0, 12)?;
     line(rt, "V 3 -1", Function::V, 3.0, -1.0, 12)?;
-    line(rt, "V -2^-60 1", Function::V, -8.673617379884035e-19, 1.0, 6)
+    line(
+        rt,
+        "V -2^-60 1",
+        Function::V,
+        -8.673617379884035e-19,
+        1.0,
+        6,
+    )
 }

@@ -19,8 +19,8 @@ library() {
     if [ -n "$2" ]; then
         realpath "$2"
     else
-        (cd "$root" && rt staticlib "$1") >&2 || return
-        echo "$root/target/staticlib/lib$1.a"
+        (cd "$root/crates/$1" && rt lib) >&2 || return
+        echo "$root/crates/$1/out/lib$1.a"
     fi
 }
 GOZHNERIM_LIBRARY=$(library gozhnerim "${GOZHNERIM_LIBRARY:-}")

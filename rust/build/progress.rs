@@ -21,10 +21,12 @@ pub fn say(text: &str) {
     }
 }
 
-/// How far a run of `rt staticlib gozhnerim` is.
+/// How far a run of `rt lib` is.
 pub struct Progress {
     needed: Option<usize>,
     proved: usize,
+    /// The crate whose verdict comes next, and whether anything in it was proved in this run.
+    judged: Option<(String, bool)>,
     began: Instant,
 }
 
@@ -39,20 +41,34 @@ impl Progress {
         Progress {
             needed,
             proved: 0,
+            judged: None,
             began: Instant::now(),
         }
     }
 
-    /// Takes in a line that `rt` wrote, and says so if it proved a crate. One that it had proved
-    /// before is only counted, unless it is the last but gozhnerim, of which nothing is heard.
+    /// Takes in a line that `rt` wrote, and says so if it proved a crate: a line names the crate and how many
+    /// modules were checked, and one after it has the verdict. A crate that it had proved before is only counted,
+    /// unless it is the last but gozhnerim.
     pub fn see(&mut self, line: &[u8]) {
         let line = String::from_utf8_lossy(line);
-        let proved = line
-            .strip_prefix("rt: ")
-            .and_then(|rest| rest.split_once(" proved ("));
-        let Some((name, how)) = proved else { return };
+        let named = line
+            .strip_prefix("crate ")
+            .and_then(|rest| rest.split_once(": modules "));
+        if let Some((name, counts)) = named {
+            self.judged = Some((name.to_string(), !counts.trim_end().ends_with("checked=0")));
+            return;
+        }
+        if !line.starts_with("logic=") {
+            return;
+        }
+        let Some((name, anew)) = self.judged.take() else {
+            return;
+        };
+        if !line.starts_with("logic=proved") {
+            return;
+        }
         self.proved += 1;
-        if how.starts_with("unchanged") && self.needed != Some(self.proved + 1) {
+        if !anew && self.needed != Some(self.proved + 1) {
             return;
         }
         let count = match self.needed {

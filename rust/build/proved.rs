@@ -7,11 +7,11 @@ use crate::lock::Lock;
 use crate::stamp::Inputs;
 use crate::{Library, WHAT_TO_DO, contents, rt};
 
-/// The library of the sources as they are: the one in target if it was finished from just these by
+/// The library of the sources as they are: the one in `out` if it was finished from just these by
 /// the same `rt`, or else a new one. It is read before another build may write it.
 pub fn library(root: &Path) -> Result<Library, String> {
     let lock = Lock::take(&root.join("crates"))?;
-    let path = root.join("target/staticlib/libgozhnerim.a");
+    let path = root.join("crates/gozhnerim/out/libgozhnerim.a");
     let bytes = finished_or_new(root, &path, &lock)?;
     Ok(Library {
         path,
@@ -31,11 +31,11 @@ fn finished_or_new(root: &Path, path: &Path, lock: &Lock) -> Result<Vec<u8>, Str
     {
         return Ok(bytes);
     }
-    rt::staticlib(root, lock)?;
+    rt::library(root, lock)?;
     if !path.is_file() {
         let shown = path.display();
         return Err(format!(
-            "`rt staticlib gozhnerim` ended well but wrote no {shown}. {WHAT_TO_DO}"
+            "`rt lib` ended well in crates/gozhnerim but wrote no {shown}. {WHAT_TO_DO}"
         ));
     }
     let bytes = contents(path)?;
@@ -54,7 +54,7 @@ fn finished_or_new(root: &Path, path: &Path, lock: &Lock) -> Result<Vec<u8>, Str
     Ok(bytes)
 }
 
-/// The library in target, if its stamp is that of these inputs.
+/// The library in `out`, if its stamp is that of these inputs.
 fn finished(inputs: &Inputs, path: &Path, stamp: &Path) -> Option<Vec<u8>> {
     let bytes = fs::read(path).ok()?;
     (fs::read_to_string(stamp).ok()? == inputs.stamp(&bytes)).then_some(bytes)

@@ -28,11 +28,10 @@ pub fn version(root: &Path) -> Result<Option<String>, String> {
 }
 
 /// Proves the library and writes it, while the lock is held.
-pub fn staticlib(root: &Path, lock: &Lock) -> Result<(), String> {
+pub fn library(root: &Path, lock: &Lock) -> Result<(), String> {
     let crates = fs::read_to_string(root.join("crates.txt")).unwrap_or_default();
     let child = lock.as_input().and_then(|input| {
-        let mut rt = command(root, "staticlib");
-        rt.arg("gozhnerim")
+        command(&root.join("crates/gozhnerim"), "lib")
             .stdin(input)
             .stdout(Stdio::piped())
             .stderr(Stdio::piped())
@@ -48,9 +47,9 @@ pub fn staticlib(root: &Path, lock: &Lock) -> Result<(), String> {
     Err(failed(status, &said))
 }
 
-fn command(root: &Path, word: &str) -> Command {
+fn command(folder: &Path, word: &str) -> Command {
     let mut rt = Command::new("rt");
-    rt.arg(word).current_dir(root);
+    rt.arg(word).current_dir(folder);
     rt
 }
 
@@ -96,7 +95,7 @@ fn locked(progress: &Mutex<Progress>) -> MutexGuard<'_, Progress> {
 fn failed(status: ExitStatus, said: &Said) -> String {
     let [out, err] = [&said.out, &said.err].map(|bytes| String::from_utf8_lossy(bytes));
     format!(
-        "`rt staticlib gozhnerim` failed ({status}). Run it in the repository and mend what it \
-         names, or set {VARIABLE} to the full path of a libgozhnerim.a. It wrote:\n{out}{err}"
+        "`rt lib` failed in crates/gozhnerim ({status}). Run it there and mend what it names, \
+         or set {VARIABLE} to the full path of a libgozhnerim.a. It wrote:\n{out}{err}"
     )
 }

@@ -36,7 +36,8 @@ impl Inputs {
     }
 }
 
-/// A digest of the name and content of crates.txt and of every file in crates.
+/// A digest of the name and content of crates.txt and of every file in crates, but for what `rt` keeps in the
+/// folders `out`.
 fn sources(root: &Path) -> io::Result<u64> {
     let mut files = vec![root.join("crates.txt")];
     collect(&root.join("crates"), &mut files)?;
@@ -54,7 +55,9 @@ fn collect(folder: &Path, files: &mut Vec<PathBuf>) -> io::Result<()> {
     for entry in fs::read_dir(folder)? {
         let entry = entry?;
         if entry.file_type()?.is_dir() {
-            collect(&entry.path(), files)?;
+            if entry.file_name() != "out" {
+                collect(&entry.path(), files)?;
+            }
         } else {
             files.push(entry.path());
         }

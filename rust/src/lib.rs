@@ -39,7 +39,7 @@
 //! It allocates nothing and keeps nothing between calls, so calls may run at the same time.
 //!
 //! To build the package, set `GOZHNERIM_LIBRARY` to the full path of `libgozhnerim.a`. Without it,
-//! `rt staticlib gozhnerim` is run in the repository. x86-64 Linux.
+//! `rt lib` is run in crates/gozhnerim of the repository. x86-64 Linux.
 
 #![forbid(unsafe_op_in_unsafe_fn)]
 #![deny(unsafe_code)]

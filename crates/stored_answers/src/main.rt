@@ -47,7 +47,10 @@ fn replay(s: &[u8]) -> Tally
 fn report(rt: &HostRuntime, path: &str, name: &str) -> io::Result<()> {
     let records = fs::read(rt, path)?;
     let t = replay(&records);
-    println!(rt; "{name}: {} answers, {} differences", t.records, t.differences)
+    println!(rt;
+        "{name}: {} answers, {} differences",
+        t.records, t.differences
+    )
 }
 
 fn main(rt: HostRuntime) -> io::Result<()> {

@@ -96,7 +96,7 @@ fn rt_that_fails() {
     let place = Place::new("rt_fails").with_rt(FAILS, 0o755);
     let ran = place.built();
     let words = [
-        "`rt staticlib gozhnerim` failed",
+        "`rt lib` failed in crates/gozhnerim",
         "exit status: 3",
         "not proved: tables",
         "see above",

@@ -33,10 +33,11 @@ pub fn writes(acts: &str) -> String {
     format!(
         "#!/bin/sh\n\
          if [ \"$*\" = version ]; then echo 'stand-in 1'; exit; fi\n\
-         [ \"$*\" = 'staticlib gozhnerim' ] || exit 9\n\
+         [ \"$*\" = lib ] || exit 9\n\
+         cd ../..\n\
          echo run >> runs\n\
          {acts}\n\
-         mkdir -p target/staticlib && cp ready.a target/staticlib/libgozhnerim.a\n"
+         mkdir -p crates/gozhnerim/out && cp ready.a crates/gozhnerim/out/libgozhnerim.a\n"
     )
 }
 

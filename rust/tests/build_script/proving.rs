@@ -136,8 +136,8 @@ fn a_changed_source_is_proved() {
 fn what_is_not_the_finished_library() {
     let place = Place::new("not_finished").with_rt(&writes(""), 0o755);
     assert!(ran_rt(&place));
-    let library = "target/staticlib/libgozhnerim.a";
-    let stamp = "target/staticlib/libgozhnerim.stamp";
+    let library = "crates/gozhnerim/out/libgozhnerim.a";
+    let stamp = "crates/gozhnerim/out/libgozhnerim.stamp";
     let mut damaged = place.read(library);
     *damaged.last_mut().unwrap() ^= 1;
     let changes: [&dyn Fn(); 5] = [
@@ -184,7 +184,7 @@ fn a_run_that_fails_leaves_the_finished_library() {
     for _ in 0..2 {
         says(
             &place.built(),
-            &["`rt staticlib gozhnerim` failed", "exit status: 1"],
+            &["`rt lib` failed in crates/gozhnerim", "exit status: 1"],
         );
     }
     fs::remove_file(place.root.join("crates/bad")).unwrap();
@@ -210,11 +210,17 @@ fn shows(place: &Place, lines: &[(&str, &str)]) {
 #[test]
 fn how_far_it_is() {
     let says = "echo 'fn floats::floor: proved'\n\
-        echo 'rt: floats proved (1 s)'\n\
-        echo 'rt: answer proved (unchanged since it was last proved)'\n\
-        echo 'rt: order NOT PROVED (exit 3, 1 s)'\n\
-        echo 'rt: order proved (12 s)'\n\
-        echo 'rt: ladder proved (unchanged since it was last proved)'\n";
+        echo 'crate floats: modules loaded=0 checked=59'\n\
+        echo 'logic=proved functions=0'\n\
+        echo 'library floats: modules loaded=59 checked=0'\n\
+        echo 'crate answer: modules loaded=27 checked=0'\n\
+        echo 'logic=proved functions=0'\n\
+        echo 'crate order: modules loaded=0 checked=12'\n\
+        echo 'logic=not-proved'\n\
+        echo 'crate order: modules loaded=100 checked=75'\n\
+        echo 'logic=proved functions=5'\n\
+        echo 'crate ladder: modules loaded=160 checked=0'\n\
+        echo 'logic=proved functions=6'\n";
     let place = Place::new("progress").with_rt(&writes(says), 0o755);
     let crates = "# gozhnerim: other\nfloats:\nanswer:\norder: floats # other\n\n\
         ladder: floats order io\nother: floats\ngozhnerim: ladder order answer libc\n";

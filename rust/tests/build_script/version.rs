@@ -38,7 +38,7 @@ fn another_version_by_rt() {
     let place = Place::new("another_version_by_rt").with_rt(&writes(""), 0o755);
     place.library("ready.a", &version_function(10_203));
     let words = [
-        "target/staticlib/libgozhnerim.a is version 1.2.3",
+        "crates/gozhnerim/out/libgozhnerim.a is version 1.2.3",
         "check out both from one version",
     ];
     says(&place.built(), &words);

@@ -1,0 +1,12 @@
+use Rattle.std.proofs.Common.{◌≡◌, ◌-◌, ◌≤◌, length, refl, zero-add, arith, length-set}
+use Rattle.slots.specs.Slots.{filled}
+use Rattle.slots.proofs.Filled.{filled_more}
+use Rattle.stored_answers.specs.Tables.{junk, with_junk}
+use Rattle.stored_answers.proofs.tables_answer.fill_junk.Given as goal
+
+abbrev pub invariant-loop-k : goal.invariant-loop-k
+invariant-loop-k l =
+    (l.k ≤ length l.initial.t) × (length l.t ≡ length l.initial.t) × (l.t ≡ filled junk 0 0 l.k l.initial.t)
+
+abbrev pub decreases-loop-k : goal.decreases-loop-k
+decreases-loop-k l = length l.initial.t - l.k

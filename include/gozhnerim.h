@@ -1,7 +1,7 @@
 /*
  * Gozhnerim: the parabolic cylinder functions D and V, their derivatives, and a ladder over them.
  *
- * Link with libgozhnerim.a (`rt staticlib gozhnerim` writes it). It needs no other library, allocates
+ * Link with libgozhnerim.a (`rt lib` in crates/gozhnerim writes it). It needs no other library, allocates
  * nothing, keeps nothing between calls and never calls back. x86-64, C99 or later, C++ too.
  *
  * D and V are those of DLMF 12 (https://dlmf.nist.gov/12), as functions of an order v and an argument x.

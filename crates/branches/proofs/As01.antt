@@ -10,7 +10,6 @@ use Rattle.floats.proofs.Comparison.{float_lt_total, float_le_trans}
 use Rattle.signs.specs.Signs.{absolute}
 use Rattle.floats.specs.declared.Function.{Function}
 use Rattle.floats.specs.declared.Function.TheVariants.{D, «V»}
-use Rattle.branches.specs.declared.Branch.{Branch}
 use Rattle.branches.specs.declared.Branch.TheVariants.{Forward, Downward, Scaled}
 use Rattle.branches.specs.Constants.{f7·5, f10}
 use Rattle.branches.specs.Branches.{branch_of, is_forward, runs_forward}

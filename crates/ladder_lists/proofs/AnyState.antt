@@ -13,7 +13,7 @@ use Rattle.derivatives.specs.Derivatives.{derivative}
 use Rattle.slots.specs.Slots.{filled, slot}
 use Rattle.slots.proofs.Filled.{length_filled, filled_in, filled_out, filled_same}
 use Rattle.tables.specs.Tables.{answer}
-use Rattle.ladder_machine.specs.Machine.{Request, request, refusal, Verdict, refuses, repeats, climbs, starts_over, refused_by, written, Effect, stays, goes_on, starts_at, effect, held_then}
+use Rattle.ladder_machine.specs.Machine.{Request, request, refusal, Verdict, refuses, repeats, climbs, starts_over, refused_by, Effect, stays, goes_on, starts_at, effect, held_then}
 use Rattle.ladder_machine.specs.Held.{counts_empty, machine_of}
 use Rattle.ladder_machine.proofs.Laws.{accepted, not_empty, not_counted_empty, Means, verdict_means, climb_parts, Does, effect_means, refuses_count, repeats_count, climbs_count, starts_count, next_by, held_stays, held_goes_on, held_starts, next_state}
 use Rattle.ladder_climb.specs.Climb.Open.{carried_derivative_is}

@@ -1,13 +1,13 @@
 -- What the crates above may know of the machine beside the contracts.
 use mathlib.Core.Path.{◌≡◌, refl, sym, ap, ◌∙◌, subst}
-use mathlib.Core.Bool.{Bool, true, false, ◌&&◌, ◌||◌, cond, beq, true≢false}
+use mathlib.Core.Bool.{Bool, true, false, cond, beq, true≢false}
 use mathlib.Core.List.{List, [], ◌∷◌}
 use mathlib.Core.Logic.{◌⊎◌, inl, inr}
 use mathlib.Core.Option.{some, none}
 use Prim.Native.Nat.{ℕ, zero, suc, ◌+◌, ◌-◌, ◌≤◌, ◌<◌}
 use native.Mathlib.Omega.{arith}
 use borrow.Author.Tests.{eq-eqb, ne_eqb, eqb-true, eqb-false, le-ltb, ltb-true, ltb-false, leb-true}
-use lib.Dec.{T, eqb, leb, ltb}
+use lib.Dec.{T, eqb}
 use lib.Ieee.{Float, binary64, fits, is_nan, le, of_bits}
 use lib.Ieee.Bits.{of_bits-to_bits}
 use Rattle.floats.specs.Operations.{◌⊕◌, bits, whole, f1}

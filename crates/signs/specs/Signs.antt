@@ -2,7 +2,7 @@
 -- layer", last line; IEEE 754; the Rust methods named). The NaN test is the library's `is_nan`.
 use Rattle.std.specs.Prelude.{Bool, true, false, not, ◌&&◌, cond, eqb, Float}
 use Rattle.std.specs.Float.{nan, inf, fin, binary64}
-use Rattle.std.specs.Float.Ieee.{neg, lt, is_nan, to_bits}
+use Rattle.std.specs.Float.Ieee.{neg, is_nan, to_bits}
 use Rattle.floats.specs.Operations.{f1}
 
 -- 01's word: "alike" means the same bits, or both NaN

@@ -1,5 +1,5 @@
 -- The expansion, the Maclaurin series and the functions below them by their numbers in data/expansion.bin (README.md).
-use Rattle.std.specs.Prelude.{ℕ, ◌/◌, ◌%◌, true, false, cond, List, [], ◌∷◌, ◌==◌, slice_index_or, Float}
+use Rattle.std.specs.Prelude.{ℕ, ◌/◌, ◌%◌, false, cond, List, [], ◌∷◌, ◌==◌, slice_index_or, Float}
 use Rattle.std.proofs.Math.Option.{Option}
 use Rattle.std.specs.Float.{nan, inf}
 use Rattle.std.specs.Float.Ieee.{neg}

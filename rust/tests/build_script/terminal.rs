@@ -59,9 +59,8 @@ fn ran_in_terminal(command: &mut Command) -> (Ran, String) {
 
 #[test]
 fn lines_take_the_place_of_the_progress_bar() {
-    let proves = writes(
-        "echo 'crate floats: modules loaded=0 checked=59'\necho 'logic=proved functions=0'",
-    );
+    let proves =
+        writes("echo 'crate floats: modules loaded=0 checked=59'\necho 'logic=proved functions=0'");
     let place = Place::new("terminal").with_rt(&proves, 0o755);
     let mut command = place.command();
     let (ran, shown) = ran_in_terminal(command.env_remove("CARGO_TERM_QUIET"));

@@ -1,7 +1,4 @@
 -- `expansion::refusal` meets its contract: each return is the number that the tests on the way to it pick.
-use borrow.Author.Tests.{not-true, not-false}
-use lib.Ieee.{lt, le, neg}
-use Rattle.expansion.specs.Constants.{order_limit, f20}
 use Rattle.expansion.specs.Expansion.Open.{order_nan, argument_nan, order_below, order_above, argument_infinite, accepted}
 use Rattle.expansion.proofs.refusal.Goals as goal
 

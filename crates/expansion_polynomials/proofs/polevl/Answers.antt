@@ -1,9 +1,5 @@
 -- `expansion_polynomials::polevl` meets its contract: the coefficients that are left lead to the polynomial's value.
-use mathlib.Core.Path.{◌≡◌}
-use Prim.Native.Nat.{◌≤◌, ◌-◌}
 use native.Mathlib.Omega.{arith}
-use lib.ListN.{length, drop}
-use Rattle.floats.specs.Polynomials.{polevl_from, polevl}
 use Rattle.expansion_polynomials.proofs.Horner.{none, starts, turns, ends}
 use Rattle.expansion_polynomials.proofs.polevl.Goals as goal
 

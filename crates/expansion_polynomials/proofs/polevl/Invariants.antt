@@ -1,9 +1,7 @@
 use mathlib.Core.Path.{◌≡◌}
 use Prim.Native.Nat.{◌≤◌, ◌-◌}
-use native.Mathlib.Omega.{arith}
 use lib.ListN.{length, drop}
 use Rattle.floats.specs.Polynomials.{polevl_from, polevl}
-use Rattle.expansion_polynomials.proofs.Horner.{none, starts, turns, ends}
 use Rattle.expansion_polynomials.proofs.polevl.Given as goal
 
 abbrev pub invariant-loop-i : goal.invariant-loop-i

@@ -1,5 +1,4 @@
 -- `expansion_polynomials::with_row` meets its contract, by those of the part and of `uv_poly`.
-use native.Mathlib.Omega.{arith}
 use Rattle.expansion_polynomials.proofs.with_row.Goals as goal
 
 pub returns : goal.returns

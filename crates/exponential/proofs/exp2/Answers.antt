@@ -2,7 +2,7 @@
 use lib.Ieee.{div, of_bits}
 use mir.Syntax.{w32}
 use mir.ValLaws.{to_z-of_z}
-use borrow.Author.Rules.{rules, sfits_of}
+use borrow.Author.Rules.{sfits_of}
 use Rattle.exponential.specs.Exponential.Open.{exp2_is}
 use Rattle.exponential.proofs.NearRange.{exp2_exponent}
 use Rattle.exponential.proofs.exp2.Goals as goal

@@ -1,5 +1,4 @@
 -- `exponential::exp_m1` meets its contract: each return is what the tests on the way to it pick.
-use borrow.Author.Rules.{rules}
 use Rattle.exponential.specs.Exponential.Open.{exp_m1_is}
 use Rattle.exponential.proofs.exp_m1.Goals as goal
 

@@ -1,11 +1,8 @@
 -- `exponential::exp_sum` meets its contract: what the loop still does to p is the rest of the countdown.
-use mathlib.Core.Path.{◌≡◌, sym}
-use Prim.Native.Nat.{◌-◌, ◌≤◌}
+use mathlib.Core.Path.{sym}
 use native.Mathlib.Omega.{arith}
 use borrow.Author.Rules.{rules}
-use Rattle.floats.specs.Loops.{down_to}
 use Rattle.floats.proofs.Countdown.{turns, ends}
-use Rattle.exponential.specs.Exponential.{exp_term, exp_sum}
 use Rattle.exponential.specs.Exponential.Open.{exp_sum_is}
 use Rattle.exponential.proofs.exp_sum.Goals as goal
 

@@ -1,11 +1,7 @@
-use mathlib.Core.Path.{◌≡◌, sym}
+use mathlib.Core.Path.{◌≡◌}
 use Prim.Native.Nat.{◌-◌, ◌≤◌}
-use native.Mathlib.Omega.{arith}
-use borrow.Author.Rules.{rules}
 use Rattle.floats.specs.Loops.{down_to}
-use Rattle.floats.proofs.Countdown.{turns, ends}
 use Rattle.exponential.specs.Exponential.{exp_term, exp_sum}
-use Rattle.exponential.specs.Exponential.Open.{exp_sum_is}
 use Rattle.exponential.proofs.exp_sum.Given as goal
 
 abbrev pub invariant-loop-j : goal.invariant-loop-j

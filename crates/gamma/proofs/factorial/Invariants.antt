@@ -1,10 +1,8 @@
-use mathlib.Core.Path.{◌≡◌, refl}
+use mathlib.Core.Path.{◌≡◌}
 use mathlib.Core.Bool.{false}
 use Prim.Native.Nat.{◌+◌, ◌-◌}
-use native.Mathlib.Omega.{arith}
 use Rattle.floats.specs.Operations.{whole}
 use Rattle.floats.specs.Loops.{count_up}
-use Rattle.floats.proofs.Loops.{goes, stops, done}
 use Rattle.gamma.specs.Gamma.{product_turn, factorial}
 use Rattle.gamma.proofs.factorial.Given as goal
 

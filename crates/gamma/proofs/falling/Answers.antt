@@ -1,10 +1,6 @@
 -- `gamma::falling` meets its contract: the turns that are left lead to the product.
-use mathlib.Core.Path.{◌≡◌, refl}
-use mathlib.Core.Bool.{false}
-use Prim.Native.Nat.{ℕ, ◌+◌, ◌-◌}
+use mathlib.Core.Path.{refl}
 use native.Mathlib.Omega.{arith}
-use Rattle.floats.specs.Operations.{◌⊖◌, whole}
-use Rattle.floats.specs.Loops.{count_up}
 use Rattle.floats.proofs.Loops.{goes, stops, done}
 use Rattle.gamma.specs.Gamma.{product_turn, falling}
 use Rattle.gamma.proofs.falling.Goals as goal

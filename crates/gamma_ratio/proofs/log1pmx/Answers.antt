@@ -1,10 +1,7 @@
 -- `gamma_ratio::log1pmx` meets its contract: the turns that are left lead to the sum.
-use mathlib.Core.Path.{◌≡◌, refl, ap}
-use mathlib.Core.Bool.{false}
-use Prim.Native.Nat.{◌-◌}
+use mathlib.Core.Path.{refl, ap}
 use native.Mathlib.Omega.{arith}
 use lib.Ieee.{Float}
-use Rattle.floats.specs.Loops.{count_up}
 use Rattle.floats.proofs.Loops.{goes, stops, done}
 use Rattle.gamma_ratio.specs.GammaRatio.{log1pmx_turn, log1pmx_sum}
 use Rattle.gamma_ratio.specs.GammaRatio.Open.{log1pmx_is}

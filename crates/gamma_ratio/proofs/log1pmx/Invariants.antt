@@ -1,12 +1,8 @@
-use mathlib.Core.Path.{◌≡◌, refl, ap}
+use mathlib.Core.Path.{◌≡◌}
 use mathlib.Core.Bool.{false}
 use Prim.Native.Nat.{◌-◌}
-use native.Mathlib.Omega.{arith}
-use lib.Ieee.{Float}
 use Rattle.floats.specs.Loops.{count_up}
-use Rattle.floats.proofs.Loops.{goes, stops, done}
 use Rattle.gamma_ratio.specs.GammaRatio.{log1pmx_turn, log1pmx_sum}
-use Rattle.gamma_ratio.specs.GammaRatio.Open.{log1pmx_is}
 use Rattle.gamma_ratio.proofs.log1pmx.Given as goal
 
 abbrev pub invariant-loop-i : goal.invariant-loop-i

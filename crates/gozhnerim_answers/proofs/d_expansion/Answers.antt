@@ -1,5 +1,5 @@
 -- `gozhnerim_answers::d_expansion` meets its contract: the call's own, with the answer flat.
-use mathlib.Core.Path.{ap, ap₂, ◌∙◌}
+use mathlib.Core.Path.{ap₂, ◌∙◌}
 use Rattle.gozhnerim_structs.specs.Answers.{answer_of}
 use Rattle.gozhnerim_answers.proofs.d_expansion.Goals as goal
 

@@ -1,6 +1,5 @@
 -- `gozhnerim_answers::d_table` meets its contract: the call's own, with the answer flat.
-use mathlib.Core.Path.{ap, ap₂, ◌∙◌}
-use borrow.Author.Rules.{rules}
+use mathlib.Core.Path.{ap₂, ◌∙◌}
 use Rattle.gozhnerim_structs.specs.Answers.{answer_of}
 use Rattle.gozhnerim_answers.proofs.d_table.Goals as goal
 

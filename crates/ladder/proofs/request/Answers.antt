@@ -1,6 +1,5 @@
 -- `ladder::request` meets its contract: what the judgement says is what the machine says of the state's fields.
 use mathlib.Core.Path.{◌≡◌, subst}
-use native.Mathlib.Omega.{arith}
 use lib.ListN.{length}
 use Rattle.ladder_machine.specs.Machine.{asks, asked, verdict}
 use Rattle.ladder_machine.specs.Held.{machine_of, verdict_of}

@@ -1,13 +1,11 @@
 -- `ladder_climb::climb` meets its contract: at rung k the values of rungs k − 1 and k are carried, and the slots up to them are filled.
 use mathlib.Core.Path.{◌≡◌, refl, sym, ◌∙◌}
 use mathlib.Core.Bool.{true}
-use Prim.Native.Nat.{◌+◌, ◌-◌, ◌≤◌, ◌<◌}
 use native.Mathlib.Nat.{sub_self}
 use native.Mathlib.Omega.{arith}
-use borrow.Author.Tests.{not-true, not-false}
 use lib.ListN.{length, length-set}
 use Rattle.slots.specs.Slots.{filled}
-use Rattle.ladder_climb.specs.Climb.{carried_value, carried_derivative, room_above}
+use Rattle.ladder_climb.specs.Climb.{room_above}
 use Rattle.ladder_climb.proofs.Room.{room_facts}
 use Rattle.ladder_climb.proofs.Climbs.{carried_low, carried_high, next_low, next_high, next_value, next_derivative, climb_left, climb_done}
 use Rattle.ladder_climb.proofs.climb.Goals as goal

@@ -1,7 +1,6 @@
 -- `ladder_columns::fill_columns` meets its contract: where there is room the two columns are filled, and else both are left.
 use mathlib.Core.Path.{◌≡◌, sym, ◌∙◌}
 use mathlib.Core.Bool.{true}
-use native.Mathlib.Omega.{arith}
 use lib.ListN.{length}
 use Rattle.ladder_columns.specs.Columns.{room_for}
 use Rattle.ladder_columns.proofs.Room.{columns_room}

@@ -1,10 +1,8 @@
 -- `ladder_columns::fill_derivatives_over` meets its contract: the derivatives up to slot k − 1 are filled.
 use mathlib.Core.Path.{◌≡◌, refl}
-use Prim.Native.Nat.{◌-◌, ◌≤◌}
 use native.Mathlib.Omega.{arith}
-use lib.ListN.{length, length-set}
+use lib.ListN.{length-set}
 use Rattle.slots.specs.Slots.{filled}
-use Rattle.value_column.specs.OverSlots.{derivative_over}
 use Rattle.ladder_columns.proofs.Columns.{derived_over}
 use Rattle.ladder_columns.proofs.fill_derivatives_over.Goals as goal
 

@@ -1,10 +1,8 @@
-use mathlib.Core.Path.{◌≡◌, refl}
+use mathlib.Core.Path.{◌≡◌}
 use Prim.Native.Nat.{◌-◌, ◌≤◌}
-use native.Mathlib.Omega.{arith}
-use lib.ListN.{length, length-set}
+use lib.ListN.{length}
 use Rattle.slots.specs.Slots.{filled}
 use Rattle.value_column.specs.OverSlots.{derivative_over}
-use Rattle.ladder_columns.proofs.Columns.{derived_over}
 use Rattle.ladder_columns.proofs.fill_derivatives_over.Given as goal
 
 abbrev pub invariant-loop-k : goal.invariant-loop-k

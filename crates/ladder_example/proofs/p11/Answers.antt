@@ -1,6 +1,5 @@
 -- `ladder_example::p11` meets its contract: each call's reply and tables are its contract's, and so the next call's.
 use mathlib.Core.Path.{refl}
-use borrow.Author.Rules.{rules}
 use lib.ListN.{replicate}
 use Rattle.floats.specs.Operations.{f0}
 use Rattle.ladder_lists.proofs.OneLadder.{counts, at_four, stored}

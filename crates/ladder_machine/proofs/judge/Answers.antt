@@ -3,7 +3,6 @@ use mathlib.Core.Path.{◌≡◌, sym, ◌∙◌}
 use borrow.Author.Rules.{rules}
 use lib.Dec.{T}
 use lib.Ieee.{binary64, fits}
-use Rattle.order.specs.Order.{below, shifted, fraction_of, top_rung, num}
 use Rattle.order.proofs.Facts.{split_facts}
 use Rattle.order.proofs.Laws.{fraction_number}
 use Rattle.ladder_machine.specs.Machine.{asks, refusal}

@@ -1,5 +1,4 @@
 -- `ladder_machine::too_short` meets its contract: the values' test first, and then the derivatives'.
-use native.Mathlib.Omega.{arith}
 use Rattle.ladder_machine.proofs.Tests.{short_values, by_derivatives}
 use Rattle.ladder_machine.proofs.too_short.Goals as goal
 

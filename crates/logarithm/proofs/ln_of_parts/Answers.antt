@@ -1,5 +1,5 @@
 -- `logarithm::ln_of_parts` meets its contract: the test picks which of m and m / 2 is taken.
-use borrow.Author.Rules.{rules, sfits_of}
+use borrow.Author.Rules.{sfits_of}
 use mir.Syntax.{w32}
 use mir.ValLaws.{to_z-of_z}
 use lib.IntN.{pos, ◌-ℤ◌}

@@ -1,11 +1,8 @@
 -- `logarithm::ln_sum` meets its contract: what the loop still does to a is the rest of the countdown.
-use mathlib.Core.Path.{◌≡◌, sym}
-use Prim.Native.Nat.{◌-◌, ◌≤◌}
+use mathlib.Core.Path.{sym}
 use native.Mathlib.Omega.{arith}
 use borrow.Author.Rules.{rules}
-use Rattle.floats.specs.Loops.{down_to}
 use Rattle.floats.proofs.Countdown.{turns, ends}
-use Rattle.logarithm.specs.Logarithm.{ln_term, ln_sum}
 use Rattle.logarithm.specs.Logarithm.Open.{ln_sum_is}
 use Rattle.logarithm.proofs.ln_sum.Goals as goal
 

@@ -1,11 +1,7 @@
-use mathlib.Core.Path.{◌≡◌, sym}
+use mathlib.Core.Path.{◌≡◌}
 use Prim.Native.Nat.{◌-◌, ◌≤◌}
-use native.Mathlib.Omega.{arith}
-use borrow.Author.Rules.{rules}
 use Rattle.floats.specs.Loops.{down_to}
-use Rattle.floats.proofs.Countdown.{turns, ends}
 use Rattle.logarithm.specs.Logarithm.{ln_term, ln_sum}
-use Rattle.logarithm.specs.Logarithm.Open.{ln_sum_is}
 use Rattle.logarithm.proofs.ln_sum.Given as goal
 
 abbrev pub invariant-loop-j : goal.invariant-loop-j

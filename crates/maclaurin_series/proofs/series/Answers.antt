@@ -1,10 +1,7 @@
 -- `maclaurin_series::series` meets its contract: the turns that are left lead to the sums.
-use mathlib.Core.Path.{◌≡◌, refl, ap}
-use mathlib.Core.Bool.{false}
-use Prim.Native.Nat.{◌-◌}
+use mathlib.Core.Path.{refl, ap}
 use native.Mathlib.Omega.{arith}
 use lib.Ieee.{Float, div, of_bits}
-use Rattle.floats.specs.Loops.{count_up}
 use Rattle.floats.proofs.Loops.{goes, stops, done}
 use Rattle.maclaurin_series.specs.Series.{State, turn, series}
 use Rattle.maclaurin_series.proofs.series.Goals as goal

@@ -1,11 +1,8 @@
-use mathlib.Core.Path.{◌≡◌, refl, ap}
+use mathlib.Core.Path.{◌≡◌}
 use mathlib.Core.Bool.{false}
 use Prim.Native.Nat.{◌-◌}
-use native.Mathlib.Omega.{arith}
-use lib.Ieee.{Float, div, of_bits}
 use Rattle.floats.specs.Loops.{count_up}
-use Rattle.floats.proofs.Loops.{goes, stops, done}
-use Rattle.maclaurin_series.specs.Series.{State, turn, series}
+use Rattle.maclaurin_series.specs.Series.{turn, series}
 use Rattle.maclaurin_series.proofs.series.Given as goal
 
 abbrev pub invariant-loop-n : goal.invariant-loop-n

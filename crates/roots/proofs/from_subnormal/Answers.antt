@@ -1,6 +1,6 @@
 -- `roots::from_subnormal` meets its contract. The loop keeps significand * 2^exponent, and the exponent falls.
 use Rattle.std.proofs.Common.{refl, arith}
-use Rattle.roots.proofs.RootNormal.{Moved, exponent_left, moved_on, moved_up}
+use Rattle.roots.proofs.RootNormal.{exponent_left, moved_on, moved_up}
 use Rattle.roots.proofs.from_subnormal.Goals as goal
 
 pub loop-significand-init : goal.loop-significand-init

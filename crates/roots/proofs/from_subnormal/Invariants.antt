@@ -1,5 +1,4 @@
-use Rattle.std.proofs.Common.{refl, arith}
-use Rattle.roots.proofs.RootNormal.{Moved, exponent_left, moved_on, moved_up}
+use Rattle.roots.proofs.RootNormal.{Moved}
 use Rattle.roots.proofs.from_subnormal.Given as goal
 
 abbrev pub invariant-loop-significand : goal.invariant-loop-significand

@@ -1,10 +1,7 @@
-use mathlib.Core.Path.{◌≡◌, refl, ap}
+use mathlib.Core.Path.{◌≡◌}
 use mathlib.Core.Bool.{false}
 use Prim.Native.Nat.{◌-◌}
-use native.Mathlib.Omega.{arith}
-use lib.Ieee.{Float}
 use Rattle.floats.specs.Loops.{count_up}
-use Rattle.floats.proofs.Loops.{goes, stops, done}
 use Rattle.start_sums_large.specs.StartSums.{vvla_turn, vvla_sum}
 use Rattle.start_sums_large.proofs.vvla_sum.Given as goal
 

@@ -1,10 +1,7 @@
-use mathlib.Core.Path.{◌≡◌, refl, ap}
+use mathlib.Core.Path.{◌≡◌}
 use mathlib.Core.Bool.{false}
 use Prim.Native.Nat.{◌-◌}
-use native.Mathlib.Omega.{arith}
-use lib.Ieee.{Float}
 use Rattle.floats.specs.Loops.{count_up}
-use Rattle.floats.proofs.Loops.{goes, stops, done}
 use Rattle.start_sums_small.specs.SmallSums.{dvsa_turn, dvsa_sum}
 use Rattle.start_sums_small.proofs.dvsa_sum.Given as goal
 

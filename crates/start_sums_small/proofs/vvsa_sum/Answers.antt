@@ -1,10 +1,7 @@
 -- `start_sums_small::vvsa_sum` meets its contract: the turns that are left lead to the sum.
-use mathlib.Core.Path.{◌≡◌, refl, ap}
-use mathlib.Core.Bool.{false}
-use Prim.Native.Nat.{◌-◌}
+use mathlib.Core.Path.{refl, ap}
 use native.Mathlib.Omega.{arith}
 use lib.Ieee.{Float}
-use Rattle.floats.specs.Loops.{count_up}
 use Rattle.floats.proofs.Loops.{goes, stops, done}
 use Rattle.start_sums_small.specs.SmallSums.{vvsa_turn, vvsa_sum}
 use Rattle.start_sums_small.proofs.vvsa_sum.Goals as goal

@@ -1,5 +1,5 @@
 -- `stored_answers::replay` meets its contract: the place stands at 32 times the records passed, and the differences are those of these records.
-use Rattle.std.proofs.Common.{◌≡◌, ◌+◌, ◌-◌, ◌*◌, ◌/◌, ◌%◌, ◌≤◌, eqb, length, refl, arith}
+use Rattle.std.proofs.Common.{◌≡◌, ◌+◌, ◌-◌, ◌/◌, ◌%◌, ◌≤◌, eqb, length, refl, arith}
 use Rattle.stored_answers.specs.Answers.{differing}
 use Rattle.stored_answers.proofs.Counts.{missed_few, one_more}
 use Rattle.stored_answers.proofs.replay.Goals as goal

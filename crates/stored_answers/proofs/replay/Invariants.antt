@@ -1,6 +1,5 @@
-use Rattle.std.proofs.Common.{◌≡◌, ◌+◌, ◌-◌, ◌*◌, ◌/◌, ◌%◌, ◌≤◌, eqb, length, refl, arith}
+use Rattle.std.proofs.Common.{◌≡◌, ◌-◌, ◌*◌, ◌≤◌, length}
 use Rattle.stored_answers.specs.Answers.{differing}
-use Rattle.stored_answers.proofs.Counts.{missed_few, one_more}
 use Rattle.stored_answers.proofs.replay.Given as goal
 
 abbrev pub invariant-loop-at : goal.invariant-loop-at

@@ -1,10 +1,8 @@
 -- `table_columns::fill_derivatives` meets its contract: the derivatives up to slot num + k − 1 are filled, and the values are as at entry.
 use mathlib.Core.Path.{◌≡◌, refl}
-use Prim.Native.Nat.{◌-◌, ◌≤◌}
 use native.Mathlib.Omega.{arith}
-use lib.ListN.{length, length-set}
+use lib.ListN.{length-set}
 use Rattle.slots.specs.Slots.{filled}
-use Rattle.value_column.specs.OverSlots.{derivative_over}
 use Rattle.table_columns.proofs.Tables.{derived_slot}
 use Rattle.table_columns.proofs.fill_derivatives.Goals as goal
 

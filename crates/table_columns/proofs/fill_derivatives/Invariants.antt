@@ -1,10 +1,8 @@
-use mathlib.Core.Path.{◌≡◌, refl}
+use mathlib.Core.Path.{◌≡◌}
 use Prim.Native.Nat.{◌-◌, ◌≤◌}
-use native.Mathlib.Omega.{arith}
-use lib.ListN.{length, length-set}
+use lib.ListN.{length}
 use Rattle.slots.specs.Slots.{filled}
 use Rattle.value_column.specs.OverSlots.{derivative_over}
-use Rattle.table_columns.proofs.Tables.{derived_slot}
 use Rattle.table_columns.proofs.fill_derivatives.Given as goal
 
 abbrev pub invariant-loop-k : goal.invariant-loop-k

@@ -1,6 +1,5 @@
 -- `table_columns::has_table_room` meets its contract: its tests are the definition's.
 use mathlib.Core.Path.{sym, ◌∙◌}
-use native.Mathlib.Omega.{arith}
 use Rattle.table_columns.proofs.Room.{no_column, no_three, by_slots}
 use Rattle.table_columns.proofs.has_table_room.Goals as goal
 

@@ -1,6 +1,5 @@
 -- `table_columns::store_own_two` meets its contract: the tests are the definition's.
 use mathlib.Core.Path.{sym, ◌∙◌}
-use native.Mathlib.Omega.{arith}
 use lib.ListN.{length-set}
 use Rattle.slots.specs.Slots.{slot}
 use Rattle.table_columns.proofs.Room.{stored_two, not_the_first}

@@ -1,6 +1,5 @@
 -- `tables::pair_at` meets its contract: what is read is what the definition names.
 use mathlib.Core.Path.{refl}
-use native.Mathlib.Omega.{arith}
 use Rattle.answer.specs.Answer.{refusal_of, pair_of}
 use Rattle.slots.specs.Slots.{slot}
 use Rattle.tables.proofs.pair_at.Goals as goal

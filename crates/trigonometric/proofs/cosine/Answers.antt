@@ -1,5 +1,4 @@
 -- `trigonometric::cosine` meets its contract.
-use borrow.Author.Rules.{rules}
 use Rattle.trigonometric.specs.Trigonometric.Open.{cosine_is}
 use Rattle.trigonometric.proofs.cosine.Goals as goal
 

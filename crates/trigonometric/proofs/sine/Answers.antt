@@ -1,5 +1,4 @@
 -- `trigonometric::sine` meets its contract.
-use borrow.Author.Rules.{rules}
 use Rattle.trigonometric.specs.Trigonometric.Open.{sine_is}
 use Rattle.trigonometric.proofs.sine.Goals as goal
 

@@ -1,12 +1,10 @@
 -- `trigonometric::trig_sum` meets its contract: what the loop still does to a is the rest of the countdown.
-use mathlib.Core.Path.{◌≡◌, sym}
-use Prim.Native.Nat.{◌+◌, ◌-◌, ◌*◌, ◌≤◌}
+use mathlib.Core.Path.{sym}
+use Prim.Native.Nat.{◌+◌, ◌-◌, ◌*◌}
 use native.Mathlib.Omega.{arith}
 use borrow.Author.Rules.{rules}
-use Rattle.floats.specs.Loops.{down_to}
 use Rattle.floats.proofs.Countdown.{turns, ends}
 use Rattle.near.proofs.Integers.{small_product}
-use Rattle.trigonometric.specs.Trigonometric.{trig_term, trig_sum}
 use Rattle.trigonometric.specs.Trigonometric.Open.{trig_sum_is}
 use Rattle.trigonometric.proofs.trig_sum.Goals as goal
 

@@ -1,12 +1,7 @@
-use mathlib.Core.Path.{◌≡◌, sym}
-use Prim.Native.Nat.{◌+◌, ◌-◌, ◌*◌, ◌≤◌}
-use native.Mathlib.Omega.{arith}
-use borrow.Author.Rules.{rules}
+use mathlib.Core.Path.{◌≡◌}
+use Prim.Native.Nat.{◌-◌, ◌≤◌}
 use Rattle.floats.specs.Loops.{down_to}
-use Rattle.floats.proofs.Countdown.{turns, ends}
-use Rattle.near.proofs.Integers.{small_product}
 use Rattle.trigonometric.specs.Trigonometric.{trig_term, trig_sum}
-use Rattle.trigonometric.specs.Trigonometric.Open.{trig_sum_is}
 use Rattle.trigonometric.proofs.trig_sum.Given as goal
 
 abbrev pub invariant-loop-j : goal.invariant-loop-j

@@ -1,7 +1,6 @@
 -- `value_column::fill_values` meets its contract: where there is room the branch that is chosen leaves its own column.
 use mathlib.Core.Path.{◌≡◌, sym, ◌∙◌}
 use mathlib.Core.Bool.{true}
-use native.Mathlib.Omega.{arith}
 use lib.ListN.{length}
 use Rattle.rungs.proofs.Laws.{value_forward, value_downward, value_scaled}
 use Rattle.value_column.specs.ValueColumn.{room_up_to}

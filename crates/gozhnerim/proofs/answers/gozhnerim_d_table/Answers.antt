@@ -1,5 +1,4 @@
 -- `gozhnerim::answers::gozhnerim_d_table` meets its contract: that of the function it calls.
-use native.Mathlib.Omega.{arith}
 use Rattle.gozhnerim.proofs.answers.gozhnerim_d_table.Goals as goal
 
 pub returns : goal.returns

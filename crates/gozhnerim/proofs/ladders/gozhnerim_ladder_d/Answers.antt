@@ -1,5 +1,4 @@
 -- `gozhnerim::ladders::gozhnerim_ladder_d` meets its contract: that of `request_in_c`, at D.
-use native.Mathlib.Omega.{arith}
 use Rattle.gozhnerim.proofs.ladders.gozhnerim_ladder_d.Goals as goal
 
 pub returns : goal.returns

@@ -1,5 +1,4 @@
 -- `gozhnerim::ladders::gozhnerim_ladder_v` meets its contract: that of `request_in_c`, at V.
-use native.Mathlib.Omega.{arith}
 use Rattle.gozhnerim.proofs.ladders.gozhnerim_ladder_v.Goals as goal
 
 pub returns : goal.returns

@@ -1,6 +1,5 @@
 -- `gozhnerim_lists::requests::request_in_c` meets its contract: that of the ladder's request on the state as a ladder, with the reply's own.
 use mathlib.Core.Path.{ap}
-use native.Mathlib.Omega.{arith}
 use Rattle.ladder.specs.Ladder.{Outcome}
 use Rattle.gozhnerim_lists.specs.Requests.{requested_in_c}
 use Rattle.gozhnerim_lists.proofs.requests.request_in_c.Goals as goal

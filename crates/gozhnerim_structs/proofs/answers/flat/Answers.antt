@@ -1,5 +1,4 @@
 -- `gozhnerim_structs::answers::flat` meets its contract: each arm is the definitions' clause.
-use borrow.Author.Rules.{rules}
 use lib.Ieee.{div, of_bits}
 use Rattle.answer.specs.Answer.{refusal_of, pair_of}
 use Rattle.gozhnerim_structs.specs.Answers.{pair_or_nan, answer_of}

@@ -1,5 +1,4 @@
 -- `gozhnerim_told::orders::accepted` meets its contract: the parts of the order, field by field.
-use borrow.Author.Rules.{rules}
 use Rattle.gozhnerim_told.specs.Orders.{accepted_order}
 use Rattle.gozhnerim_told.proofs.orders.accepted.Goals as goal
 

@@ -1,5 +1,4 @@
 -- `ladder::actions::answer` meets its contract: the pair is the state's.
-use native.Mathlib.Omega.{arith}
 use Rattle.answer.specs.Answer.{refusal_of, pair_of}
 use Rattle.ladder.specs.Ladder.{written_of, given_by, answered}
 use Rattle.ladder.specs.Ladder.Open.{pair_from_is}

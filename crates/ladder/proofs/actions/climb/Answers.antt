@@ -1,6 +1,5 @@
 -- `ladder::actions::climb` meets its contract: the climb from the state's two values, which has room.
 use mathlib.Core.Path.{◌∙◌}
-use native.Mathlib.Omega.{arith}
 use Rattle.ladder.proofs.Climbs.{climbed_state, climbed_values_law, climbed_derivatives_law}
 use Rattle.ladder.proofs.actions.climb.Goals as goal
 

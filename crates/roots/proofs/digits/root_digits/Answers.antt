@@ -1,6 +1,5 @@
 -- `roots::digits::root_digits` meets its contract. The loop's invariant is `Found`: the digits that are left, at their scale.
-use Rattle.std.proofs.Common.{arith}
-use Rattle.roots.proofs.RootDigits.{Found, found_none, partial, found_next, found_all}
+use Rattle.roots.proofs.RootDigits.{found_none, partial, found_next, found_all}
 use Rattle.roots.proofs.digits.root_digits.Goals as goal
 
 pub loop-left-init : goal.loop-left-init

@@ -1,5 +1,4 @@
-use Rattle.std.proofs.Common.{arith}
-use Rattle.roots.proofs.RootDigits.{Found, found_none, partial, found_next, found_all}
+use Rattle.roots.proofs.RootDigits.{Found}
 use Rattle.roots.proofs.digits.root_digits.Given as goal
 
 abbrev pub invariant-loop-left : goal.invariant-loop-left

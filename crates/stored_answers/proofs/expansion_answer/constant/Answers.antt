@@ -1,5 +1,5 @@
 -- `stored_answers::expansion_answer::constant` meets its contract: the array is the list of the definition.
-use Rattle.std.proofs.Common.{refl, arith}
+use Rattle.std.proofs.Common.{refl}
 use lib.Ieee.{div, neg, of_bits}
 use Rattle.stored_answers.specs.Expansion.{constants, constant}
 use Rattle.stored_answers.proofs.expansion_answer.constant.Goals as goal

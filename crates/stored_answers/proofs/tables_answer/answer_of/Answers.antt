@@ -1,5 +1,5 @@
 -- `stored_answers::tables_answer::answer_of` meets its contract: the number's digits are the call, the place and the slots.
-use Rattle.std.proofs.Common.{replicate, sym, arith, length-take-le, eq-eqb, ne_eqb, le-leb}
+use Rattle.std.proofs.Common.{replicate, sym, length-take-le, eq-eqb, ne_eqb, le-leb}
 use borrow.Author.Tests.{lt-leb}
 use lib.Ieee.{div, of_bits}
 use Rattle.floats.specs.Operations.{f0}

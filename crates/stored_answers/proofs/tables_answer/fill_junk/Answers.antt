@@ -1,5 +1,5 @@
 -- `stored_answers::tables_answer::fill_junk` meets its contract: slots 0 to k − 1 are filled.
-use Rattle.std.proofs.Common.{◌≡◌, ◌-◌, ◌≤◌, length, refl, zero-add, arith, length-set}
+use Rattle.std.proofs.Common.{◌≡◌, length, refl, zero-add, arith, length-set}
 use Rattle.slots.specs.Slots.{filled}
 use Rattle.slots.proofs.Filled.{filled_more}
 use Rattle.stored_answers.specs.Tables.{junk, with_junk}

@@ -1,7 +1,6 @@
-use Rattle.std.proofs.Common.{◌≡◌, ◌-◌, ◌≤◌, length, refl, zero-add, arith, length-set}
+use Rattle.std.proofs.Common.{◌≡◌, ◌-◌, ◌≤◌, length}
 use Rattle.slots.specs.Slots.{filled}
-use Rattle.slots.proofs.Filled.{filled_more}
-use Rattle.stored_answers.specs.Tables.{junk, with_junk}
+use Rattle.stored_answers.specs.Tables.{junk}
 use Rattle.stored_answers.proofs.tables_answer.fill_junk.Given as goal
 
 abbrev pub invariant-loop-k : goal.invariant-loop-k

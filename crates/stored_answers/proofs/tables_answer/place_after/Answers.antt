@@ -1,5 +1,5 @@
 -- `stored_answers::tables_answer::place_after` meets its contract: the call's own, read at the place.
-use Rattle.std.proofs.Common.{arith, le-ltb, lt-ltb}
+use Rattle.std.proofs.Common.{le-ltb, lt-ltb}
 use Rattle.stored_answers.specs.Tables.{place_after}
 use Rattle.stored_answers.proofs.tables_answer.place_after.Goals as goal
 

@@ -1,5 +1,4 @@
 -- `stored_answers::tables_answer::place_after_junk` meets its contract: one call after the other.
-use Rattle.std.proofs.Common.{arith}
 use Rattle.stored_answers.proofs.tables_answer.place_after_junk.Goals as goal
 
 pub returns : goal.returns

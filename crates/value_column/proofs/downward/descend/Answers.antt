@@ -1,10 +1,9 @@
 -- `value_column::downward::descend` meets its contract: at rung k it and the one above it are carried, and slots k to top − 1 are filled.
 use mathlib.Core.Path.{◌≡◌, refl, sym}
-use Prim.Native.Nat.{◌+◌, ◌-◌, ◌≤◌}
+use Prim.Native.Nat.{◌+◌, ◌-◌}
 use native.Mathlib.Nat.{sub_self, sub-zero}
 use native.Mathlib.Omega.{arith}
-use lib.ListN.{length, length-set}
-use Rattle.rungs.specs.Rungs.{descent}
+use lib.ListN.{length-set}
 use Rattle.rungs.proofs.Laws.{descent_top, descent_above}
 use Rattle.slots.specs.Slots.{filled}
 use Rattle.value_column.proofs.Turns.{lowered_turn, lowered_slot}

@@ -1,12 +1,8 @@
-use mathlib.Core.Path.{◌≡◌, refl, sym}
+use mathlib.Core.Path.{◌≡◌}
 use Prim.Native.Nat.{◌+◌, ◌-◌, ◌≤◌}
-use native.Mathlib.Nat.{sub_self, sub-zero}
-use native.Mathlib.Omega.{arith}
-use lib.ListN.{length, length-set}
+use lib.ListN.{length}
 use Rattle.rungs.specs.Rungs.{descent}
-use Rattle.rungs.proofs.Laws.{descent_top, descent_above}
 use Rattle.slots.specs.Slots.{filled}
-use Rattle.value_column.proofs.Turns.{lowered_turn, lowered_slot}
 use Rattle.value_column.proofs.downward.descend.Given as goal
 
 abbrev pub invariant-loop-k : goal.invariant-loop-k

@@ -1,8 +1,7 @@
 -- `value_column::downward::lower` meets its contract: at rung k it and the one above it are carried.
 use mathlib.Core.Path.{◌≡◌, sym}
-use Prim.Native.Nat.{◌+◌, ◌-◌, ◌≤◌}
+use Prim.Native.Nat.{◌+◌, ◌-◌}
 use native.Mathlib.Omega.{arith}
-use Rattle.rungs.specs.Rungs.{descent}
 use Rattle.rungs.proofs.Laws.{descent_top, descent_above}
 use Rattle.value_column.proofs.Turns.{lowered_turn}
 use Rattle.value_column.proofs.downward.lower.Goals as goal

@@ -1,9 +1,6 @@
-use mathlib.Core.Path.{◌≡◌, sym}
-use Prim.Native.Nat.{◌+◌, ◌-◌, ◌≤◌}
-use native.Mathlib.Omega.{arith}
+use mathlib.Core.Path.{◌≡◌}
+use Prim.Native.Nat.{◌+◌, ◌≤◌}
 use Rattle.rungs.specs.Rungs.{descent}
-use Rattle.rungs.proofs.Laws.{descent_top, descent_above}
-use Rattle.value_column.proofs.Turns.{lowered_turn}
 use Rattle.value_column.proofs.downward.lower.Given as goal
 
 abbrev pub invariant-loop-k : goal.invariant-loop-k

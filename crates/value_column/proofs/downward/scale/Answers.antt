@@ -1,10 +1,8 @@
 -- `value_column::downward::scale` meets its contract: slots 0 to k − 1 are scaled, and slot k is as at entry.
 use mathlib.Core.Path.{◌≡◌, refl}
-use Prim.Native.Nat.{◌-◌, ◌≤◌}
 use native.Mathlib.Omega.{arith}
-use lib.ListN.{length, length-set}
+use lib.ListN.{length-set}
 use Rattle.slots.specs.Slots.{filled}
-use Rattle.value_column.specs.OverSlots.{scaled_by}
 use Rattle.value_column.proofs.Turns.{scaled_slot}
 use Rattle.value_column.proofs.downward.scale.Goals as goal
 

@@ -1,9 +1,8 @@
 -- `value_column::upward::climb` meets its contract: at rung k the two below it are carried, and slots 3 to k − 1 are filled.
 use mathlib.Core.Path.{◌≡◌, refl}
-use Prim.Native.Nat.{◌+◌, ◌-◌, ◌≤◌}
+use Prim.Native.Nat.{◌+◌, ◌-◌}
 use native.Mathlib.Omega.{arith}
-use lib.ListN.{length, length-set}
-use Rattle.rungs.specs.Rungs.{rung}
+use lib.ListN.{length-set}
 use Rattle.slots.specs.Slots.{filled}
 use Rattle.value_column.proofs.Turns.{climbed, climbed_slot}
 use Rattle.value_column.proofs.upward.climb.Goals as goal

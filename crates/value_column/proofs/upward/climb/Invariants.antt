@@ -1,10 +1,8 @@
-use mathlib.Core.Path.{◌≡◌, refl}
-use Prim.Native.Nat.{◌+◌, ◌-◌, ◌≤◌}
-use native.Mathlib.Omega.{arith}
-use lib.ListN.{length, length-set}
+use mathlib.Core.Path.{◌≡◌}
+use Prim.Native.Nat.{◌-◌, ◌≤◌}
+use lib.ListN.{length}
 use Rattle.rungs.specs.Rungs.{rung}
 use Rattle.slots.specs.Slots.{filled}
-use Rattle.value_column.proofs.Turns.{climbed, climbed_slot}
 use Rattle.value_column.proofs.upward.climb.Given as goal
 
 abbrev pub invariant-loop-k : goal.invariant-loop-k

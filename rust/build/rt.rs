@@ -31,7 +31,10 @@ pub fn version(root: &Path) -> Result<Option<String>, String> {
 pub fn library(root: &Path, lock: &Lock) -> Result<(), String> {
     let crates = fs::read_to_string(root.join("crates.txt")).unwrap_or_default();
     let child = lock.as_input().and_then(|input| {
-        command(&root.join("crates/gozhnerim"), "lib")
+        // The lock is a folder, which `rt` does not take as its standard input.
+        Command::new("sh")
+            .args(["-c", "exec 9<&0 </dev/null && exec rt lib"])
+            .current_dir(root.join("crates/gozhnerim"))
             .stdin(input)
             .stdout(Stdio::piped())
             .stderr(Stdio::piped())

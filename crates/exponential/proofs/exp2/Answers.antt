@@ -22,21 +22,19 @@ returns-then-y-3 c = rw (exp2_is c.args.y, c.if-y.false, c.if-y-2.false, c.if-y-
 pub scaled-requires : goal.scaled-requires
 unfolding div of_bits
 scaled-requires c =
-    let n = c in
-    rw (to_z-of_z w32 n.near-k.result (sfits_of n.near-k.type_inv), n.near-k.ensures)
-    (exp2_exponent _ n.if-y.false n.if-y-2.false n.if-y-3.false)
+    rw (to_z-of_z w32 c.near-k.result (sfits_of c.near-k.type_inv), c.near-k.ensures)
+    (exp2_exponent _ c.if-y.false c.if-y-2.false c.if-y-3.false)
 
 pub returns : goal.returns
 unfolding div of_bits
 returns c =
-    let n = c in
     rw (
-      exp2_is n.args.y,
-      n.if-y.false,
-      n.if-y-2.false,
-      n.if-y-3.false,
+      exp2_is c.args.y,
+      c.if-y.false,
+      c.if-y-2.false,
+      c.if-y-3.false,
       c.scaled.ensures,
       c.exp_sum.ensures,
-      to_z-of_z w32 n.near-k.result (sfits_of n.near-k.type_inv),
-      n.near-k.ensures,
+      to_z-of_z w32 c.near-k.result (sfits_of c.near-k.type_inv),
+      c.near-k.ensures,
     )

@@ -31,11 +31,10 @@ power_of_two-requires-2 c =
 
 pub returns : goal.returns
 returns c =
-    let s = c in
-    let k = s.args.k in
-    let fits = s.ranges.k in
+    let k = c.args.k in
+    let fits = c.ranges.k in
     rw (
-      scaled_is s.args.p k,
+      scaled_is c.args.p k,
       c.power_of_two.ensures,
       c.power_of_two-2.ensures,
       to_z-of_z w32 k fits,

@@ -13,6 +13,7 @@ use Rattle.gamma.proofs.Counts.{last_below_zero, last_from_zero}
 use Rattle.gamma.proofs.last_factor.Goals as goal
 use Rattle.gamma.proofs.last_factor.Goals.{After-to_i32-m}
 
+-- what to_i32 gives is an i32
 back : (c : After-to_i32-m) → to_z w32 (of_z w32 c.to_i32-m.result) ≡ c.to_i32-m.result
 back c = to_z-of_z w32 c.to_i32-m.result (sfits_of c.to_i32-m.type_inv)
 

@@ -12,6 +12,7 @@ use Rattle.ladder_machine.proofs.Tests.{refusal_by_law, verdict_refused, verdict
 use Rattle.ladder_machine.proofs.judge.Goals as goal
 use Rattle.ladder_machine.proofs.judge.Goals.{After-refusal_by-number, Else-number-ne0}
 
+-- the number that the call gives is the refusal's
 number : (c : After-refusal_by-number)
     → let g = c.args in
     c.refusal_by-number.result ≡ refusal (asks g.function g.v g.x) g.values g.derivatives
@@ -43,6 +44,7 @@ case_of-requires c =
     let facts = split_facts g.v (record { number = a.0; small = a.2; fit = order-fits (goal.at.case_of-requires c).Else-number-ne0 }) in
     record { argument = a.1; fraction = rw c.split-o.ensures.fraction (fraction_number facts) }
 
+-- an accepted request's case, by the order's parts
 pub returns : goal.returns
 unfolding verdict_of
 returns c =

@@ -9,25 +9,21 @@ use Rattle.logarithm.proofs.ln_of_parts.Goals as goal
 
 pub returns-then-m : goal.returns-then-m
 returns-then-m c =
-    let d = c in
-    let s = d in
     rw (
-      ln_of_parts_is s.args.m (pos s.args.field -ℤ pos s.args.bias),
-      ← next_exponent s.args.field s.args.bias,
-      d.if-m.true,
+      ln_of_parts_is c.args.m (pos c.args.field -ℤ pos c.args.bias),
+      ← next_exponent c.args.field c.args.bias,
+      c.if-m.true,
       c.ln_near_one.ensures,
-      to_z-of_z w32 d.exponent.result (sfits_of d.exponent.type_inv),
-      d.exponent.ensures,
+      to_z-of_z w32 c.exponent.result (sfits_of c.exponent.type_inv),
+      c.exponent.ensures,
     )
 
 pub returns : goal.returns
 returns c =
-    let d = c in
-    let s = d in
     rw (
-      ln_of_parts_is s.args.m (pos s.args.field -ℤ pos s.args.bias),
-      d.if-m.false,
+      ln_of_parts_is c.args.m (pos c.args.field -ℤ pos c.args.bias),
+      c.if-m.false,
       c.ln_near_one-2.ensures,
-      to_z-of_z w32 d.exponent-2.result (sfits_of d.exponent-2.type_inv),
-      d.exponent-2.ensures,
+      to_z-of_z w32 c.exponent-2.result (sfits_of c.exponent-2.type_inv),
+      c.exponent-2.ensures,
     )

@@ -7,6 +7,7 @@ use Rattle.table_refusals.proofs.Laws.{refused_order_law, refused_argument, refu
 use Rattle.table_refusals.proofs.refusal_by.Goals as goal
 use Rattle.table_refusals.proofs.refusal_by.Goals.{Else-is_nan, Else-is_nan-2, Else-too_large}
 
+-- v is a number, x is one, and v is not too large
 order-is-number : (c : Else-is_nan) → is_nan c.args.v ≡ false
 order-is-number c = sym c.is_nan.ensures ∙ c.if-is_nan.false
 

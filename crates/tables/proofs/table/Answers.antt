@@ -16,27 +16,18 @@ use Rattle.answer.specs.Answer.{refusal_of, pair_of}
 use Rattle.tables.specs.Tables.{refusal}
 use Rattle.tables.proofs.Calls.{refusal_short, accepted, left_as_found, settled}
 use Rattle.tables.proofs.table.Goals as goal
-use Rattle.tables.proofs.table.Goals.{Else-number-ne0}
 
 -- the number that the call gives is the refusal's
 number : (v x : Float) (l : List Float) (m r : ℕ) → m ≡ num v → r ≡ refusal_by v x (ltb (length l) (2 * m)) → r ≡ refusal v x (length l)
 number v x l m r e h = rw e at h ∙ refusal_short v x (length l)
 
-ok : (c : Else-number-ne0)
-    → let g = c.args in
-    refusal g.v g.x (length g.t.now) ≡ 0
-ok c = sym (number _ _ _ _ _ c.num-num.ensures c.refusal_by-number.ensures) ∙ c.if-number-ne0.false
+ok : (v x : Float) (l : List Float) (m r : ℕ) → m ≡ num v → r ≡ refusal_by v x (ltb (length l) (2 * m)) → r ≡ 0 → refusal v x (length l) ≡ 0
+ok v x l m r e h z = sym (number v x l m r e h) ∙ z
 
-order-fits : (c : Else-number-ne0) → T (fits binary64 c.args.v)
-order-fits c = search rules
-
-facts : (c : Else-number-ne0)
-    → let v = c.args.v in
-    Split (below v) (shifted v) (fraction_of v) (top_rung v) (num v)
-facts c =
-    let g = c.args in
-    let a = accepted g.v g.x (length g.t.now) (ok c) in
-    split_facts g.v (record { number = a.0; small = a.2; fit = order-fits c })
+facts : (v x : Float) (slots : ℕ) → T (fits binary64 v) → refusal v x slots ≡ 0 → Split (below v) (shifted v) (fraction_of v) (top_rung v) (num v)
+facts v x slots fit k =
+    let a = accepted v x slots k in
+    split_facts v (record { number = a.0; small = a.2; fit = fit })
 
 -- n and num, as the calls found them
 room : (v x : Float) (slots n m : ℕ) → refusal v x slots ≡ 0 → Split (below v) (shifted v) (fraction_of v) (top_rung v) (num v)
@@ -54,21 +45,25 @@ returns-then-number-ne0 c =
 pub pair_at-requires : goal.pair_at-requires
 pair_at-requires c =
     let g = c.args in
-    let at = (goal.at.pair_at-requires c).Else-number-ne0 in
-    let r = room g.v g.x (length g.t.now) _ _ (ok at) (facts at) c.split-o.ensures.top c.num-num.ensures in
+    let fit : T (fits binary64 g.v) = search rules in
+    let none : refusal g.v g.x (length g.t.now) ≡ 0 = ok _ _ _ _ _ c.num-num.ensures c.refusal_by-number.ensures c.if-number-ne0.false in
+    let r = room g.v g.x (length g.t.now) _ _ none (facts g.v g.x (length g.t.now) fit none) c.split-o.ensures.top c.num-num.ensures in
     record { some = r.0; room = rw c.fill_table.auto.t (omega (arith, r)) }
 
 pub returns : goal.returns
 returns c =
     let g = c.args in
-    let p = settled g.function g.v g.x g.t.now (ok (goal.at.returns c).Else-number-ne0) (facts (goal.at.returns c).Else-number-ne0) c.split-o.result.below c.split-o.result.u c.split-o.result.f c.split-o.result.n c.num-num.result
+    let o = c.split-o in
+    let fit : T (fits binary64 g.v) = search rules in
+    let k = ok g.v g.x g.t.now _ _ c.num-num.ensures c.refusal_by-number.ensures c.if-number-ne0.false in
+    let p = settled g.function g.v g.x g.t.now k (facts g.v g.x (length g.t.now) fit k) o.result.below o.result.u o.result.f o.result.n c.num-num.result
     c.fill_table.new.t
     (pair_of c.pair_at.result)
-    c.split-o.ensures.side
-    c.split-o.ensures.shifted
-    c.split-o.ensures.fraction
-    c.split-o.ensures.top
+    o.ensures.side
+    o.ensures.shifted
+    o.ensures.fraction
+    o.ensures.top
     c.num-num.ensures
     c.fill_table.ensures
     c.pair_at.ensures.pair in
-    record { number = c.pair_at.ensures.number ∙ sym (ok (goal.at.returns c).Else-number-ne0); pair = p.0; after = p.1 }
+    record { number = c.pair_at.ensures.number ∙ sym k; pair = p.0; after = p.1 }

@@ -9,16 +9,15 @@ use Rattle.trigonometric.proofs.sin.Goals as goal
 pub returns-then-y-2 : goal.returns-then-y-2
 unfolding div of_bits
 returns-then-y-2 c =
-    let n = c in
     rw (
-      sin_is n.args.y,
-      n.if-y.true,
-      n.if-y-2.true,
+      sin_is c.args.y,
+      c.if-y.true,
+      c.if-y-2.true,
       c.sin_in.ensures,
       c.angle_rest.ensures,
       c.quadrant.ensures,
-      to_z-of_z w32 n.near-q.result (sfits_of n.near-q.type_inv),
-      n.near-q.ensures,
+      to_z-of_z w32 c.near-q.result (sfits_of c.near-q.type_inv),
+      c.near-q.ensures,
     )
 
 pub returns-then-y : goal.returns-then-y

@@ -8,11 +8,11 @@ use Rattle.truncation.proofs.Cuts.{in_i64, in_i32, above_i32, below_i32, nan_to_
 use Rattle.truncation.proofs.to_i32.Goals as goal
 use Rattle.truncation.proofs.to_i32.Goals.{After-truncating_f64_to_i64}
 
+-- what the call gives, read back from its bits
 whole : (c : After-truncating_f64_to_i64) → to_z w64 (of_z w64 c.truncating_f64_to_i64.result) ≡ to_signed 31 c.args.x
 unfolding of_bits neg
 whole c =
-    let t = c in
-    to_z-of_z w64 c.truncating_f64_to_i64.result (sfits_of c.truncating_f64_to_i64.type_inv) ∙ c.truncating_f64_to_i64.ensures ∙ in_i32 t.args.x t.if-x.true t.if-x-2.true
+    to_z-of_z w64 c.truncating_f64_to_i64.result (sfits_of c.truncating_f64_to_i64.type_inv) ∙ c.truncating_f64_to_i64.ensures ∙ in_i32 c.args.x c.if-x.true c.if-x-2.true
 
 pub truncating_f64_to_i64-requires : goal.truncating_f64_to_i64-requires
 unfolding of_bits neg

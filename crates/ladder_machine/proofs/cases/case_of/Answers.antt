@@ -8,6 +8,7 @@ use Rattle.ladder_machine.proofs.Tests.{case_empty, case_other, case_repeat, cas
 use Rattle.ladder_machine.proofs.cases.case_of.Goals as goal
 use Rattle.ladder_machine.proofs.cases.case_of.Goals.{Else-counts_empty, Then-same_rungs}
 
+-- something is held, and it is for the same rungs
 held : (c : Else-counts_empty) → counts_empty c.args.held ≡ false
 held c = sym c.counts_empty.ensures ∙ c.if-counts_empty.false
 

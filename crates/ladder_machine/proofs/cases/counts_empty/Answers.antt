@@ -6,6 +6,7 @@ use Rattle.ladder_machine.proofs.Tests.{no_rung, too_high, no_argument, no_fract
 use Rattle.ladder_machine.proofs.cases.counts_empty.Goals as goal
 use Rattle.ladder_machine.proofs.cases.counts_empty.Goals.{Else-is_nan, Else-is_nan-2}
 
+-- x is a number, and f is one
 argument : (c : Else-is_nan) → is_nan c.args.held.x ≡ false
 argument c = sym c.is_nan.ensures ∙ c.if-is_nan.false
 

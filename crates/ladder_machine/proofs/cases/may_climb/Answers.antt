@@ -6,6 +6,7 @@ use Rattle.ladder_machine.proofs.Tests.{not_higher, below_two, by_branch}
 use Rattle.ladder_machine.proofs.cases.may_climb.Goals as goal
 use Rattle.ladder_machine.proofs.cases.may_climb.Goals.{After-runs_forward}
 
+-- the branch is asked for at the held n + f
 branch : (c : After-runs_forward)
     → let h = c.args.held in
     c.runs_forward.result ≡ runs_forward h.function h.below h.x (whole h.n ⊕ h.f)

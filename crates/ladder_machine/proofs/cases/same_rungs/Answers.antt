@@ -8,6 +8,7 @@ use Rattle.ladder_machine.proofs.Tests.{other_function, other_side, other_argume
 use Rattle.ladder_machine.proofs.cases.same_rungs.Goals as goal
 use Rattle.ladder_machine.proofs.cases.same_rungs.Goals.{Else-held-below, Else-not-alike, Else-not-same_function}
 
+-- the function, the side and the argument are the same
 function : (c : Else-not-same_function)
     → let g = c.args in
     same_function g.held.function g.function ≡ true

@@ -2,9 +2,9 @@
 //!
 //! The library is the file that GOZHNERIM_LIBRARY names. Where the variable is not set or empty, it
 //! is the one that `rt lib` proves and writes in crates/gozhnerim of the repository, the folder
-//! above this one. It is copied to this build's own folder, asked for its version and linked from there,
-//! so that no other file of that name can be taken and the packages that depend on this one have it
-//! too.
+//! above this one. It is copied to this build's own folder, asked for its version and linked from
+//! there, so that no other file of that name can be taken and the packages that depend on this one
+//! have it too.
 
 #[path = "build/lock.rs"]
 mod lock;

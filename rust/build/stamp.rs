@@ -36,8 +36,8 @@ impl Inputs {
     }
 }
 
-/// A digest of the name and content of crates.txt and of every file in crates, but for what `rt` keeps in the
-/// folders `out`.
+/// A digest of the name and content of crates.txt and of every file in crates, but for what `rt`
+/// keeps in the folders `out`.
 fn sources(root: &Path) -> io::Result<u64> {
     let mut files = vec![root.join("crates.txt")];
     collect(&root.join("crates"), &mut files)?;

@@ -183,8 +183,8 @@ impl Place {
 }
 
 impl Drop for Place {
-    /// A stand-in for `rt` that still waits after a failed test goes on, and ends. What makes the place a repository of
-    /// crates goes: `rt` asks for one at the top of a checkout alone.
+    /// A stand-in for `rt` that still waits after a failed test goes on, and ends. What makes the
+    /// place a repository of crates goes: `rt` asks for one at the top of a checkout alone.
     fn drop(&mut self) {
         let _ = fs::write(self.root.join("go"), "");
         let _ = fs::remove_file(self.root.join("crates.txt"));

@@ -46,9 +46,9 @@ impl Progress {
         }
     }
 
-    /// Takes in a line that `rt` wrote, and says so if it proved a crate: a line names the crate and
-    /// how many modules were checked, and one after it has the verdict. A crate that it had proved
-    /// before is only counted, unless it is the last but gozhnerim.
+    /// Takes in a line that `rt` wrote, and says so if it proved a crate: a line names the crate
+    /// and how many modules were checked, and one after it has the verdict. A crate that it had
+    /// proved before is only counted, unless it is the last but gozhnerim.
     pub fn see(&mut self, line: &[u8]) {
         let line = String::from_utf8_lossy(line);
         let named = line

@@ -1,17 +1,27 @@
 -- An answer, in 01's words ("A request comes in"): a refusal number, which is 0 where there is none, or the pair of
 -- value and derivative.
-use Rattle.std.specs.Prelude.{cond, ℕ, eqb, Float}
+use Rattle.std.specs.Prelude.{cond, ℕ, eqb, Float, Result, Ok, Err}
 use Rattle.std.proofs.Math.Option.{Option, some, none}
-use Rattle.answer.specs.declared.Answer.{Answer}
-use Rattle.answer.specs.declared.Answer.TheVariants.{Pair, Refused}
+use Rattle.answer.specs.declared.Pair.{Pair}
+use Rattle.answer.specs.declared.Refusal.{Refusal}
+use Rattle.answer.specs.declared.Refusal.TheVariants.{NotANumber, OrderTooLarge, TableTooShort, OrderOutsideExpansion}
+use Rattle.answer.specs.declared.Refusal.TheVariants.{Infinite}
 
-unfoldable pub refusal_of : Answer → ℕ
-refusal_of (Pair value derivative) = 0
-refusal_of (Refused number) = number
+unfoldable pub number : Refusal → ℕ
+number NotANumber = 1
+number OrderTooLarge = 2
+number TableTooShort = 3
+number OrderOutsideExpansion = 4
+number Infinite = 5
 
-unfoldable pub pair_of : Answer → Option (Float × Float)
-pair_of (Pair value derivative) = some (value, derivative)
-pair_of (Refused number) = none
+-- of a test or a request, whatever it gives where it is not refused
+unfoldable pub refusal_of : {A : Type 0} → Result A Refusal → ℕ
+refusal_of (Ok a) = 0
+refusal_of (Err refusal) = number refusal
+
+unfoldable pub pair_of : Result Pair Refusal → Option (Float × Float)
+pair_of (Ok pair) = some (pair.value, pair.derivative)
+pair_of (Err refusal) = none
 
 -- what is answered by the refusal's number: the pair with 0, and none with any other
 unfoldable pub answer_by : ℕ → Float × Float → Option (Float × Float)

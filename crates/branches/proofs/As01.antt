@@ -1,9 +1,7 @@
 -- The source's chain of tests is what 01 and the source say of each branch.
-use mathlib.Core.Path.{◌≡◌, refl, sym, ap, ◌∙◌, subst}
-use mathlib.Core.Bool.{Bool, true, false, not, ◌&&◌, ◌||◌, cond, true≢false}
-use lib.Dec.{T}
-use lib.Ieee.{Float, nan, lt, le, eq, is_nan, of_bits}
-use lib.Ieee.Bits.{is_true}
+use Rattle.std.proofs.Common.{◌≡◌, refl, sym, ap, ◌∙◌, subst, Bool, true, false, not, ◌&&◌, ◌||◌, cond, true≢false, T}
+use Rattle.std.specs.Float.Ieee.{Float, nan, lt, le, eq, is_nan, of_bits}
+use Rattle.std.specs.Float.Ieee.Bits.{is_true}
 use Rattle.floats.specs.Operations.{◌⊗◌, decimal, f0, f½, f2}
 use Rattle.floats.proofs.Booleans.{or_l}
 use Rattle.floats.proofs.Comparison.{float_lt_total, float_le_trans}

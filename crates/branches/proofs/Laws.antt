@@ -1,8 +1,6 @@
 -- What the crates above may know of the branches beside the contracts: which run forward, and that a higher order does so too.
-use mathlib.Core.Path.{◌≡◌, refl, sym, ap, ◌∙◌}
-use Prim.Native.Nat.{ℕ, ◌≤◌}
-use mathlib.Core.Bool.{Bool, true, false, ◌&&◌, ◌||◌, cond, true≢false}
-use lib.Ieee.{Float, lt, le}
+use Rattle.std.proofs.Common.{◌≡◌, refl, sym, ap, ◌∙◌, ℕ, ◌≤◌, Bool, true, false, ◌&&◌, ◌||◌, cond, true≢false}
+use Rattle.std.specs.Float.Ieee.{Float, lt, le}
 use Rattle.floats.specs.Operations.{◌⊕◌, ◌⊗◌, whole, f0, f½}
 use Rattle.signs.specs.Signs.{absolute}
 use Rattle.order.specs.Facts.{Split}

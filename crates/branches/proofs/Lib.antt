@@ -1,3 +1,3 @@
 pub mod Laws
 pub mod As01
-mod Cases
+pub mod Cases

@@ -6,7 +6,9 @@ ghost use Rattle.mul_exp.specs.MulExp.{mul_exp};
 ghost use Rattle.expansion_polynomials.specs.Polynomials.{uv_poly, u_sum, v_sum};
 ghost use Rattle.expansion_elementary.specs.Mantissas.{mantissas};
 
-// The sums of u_s and of v_s.
+use expansion_polynomials::Sums;
+
+// The sums of u_s and of v_s. A struct of C.
 #[repr(C)]
 #[derive(Clone, Copy)]
 pub struct ComparedSums {
@@ -14,7 +16,7 @@ pub struct ComparedSums {
     pub v: f64,
 }
 
-// D and its derivative as mantissas with one exponent.
+// D and its derivative as mantissas with one exponent. A struct of C.
 #[repr(C)]
 #[derive(Clone, Copy)]
 pub struct ComparedMantissas {
@@ -51,7 +53,7 @@ pub extern "C" fn compared_mul_exp(m: f64, e: f64) -> f64
     mul_exp::mul_exp(m, e)
 }
 
-// bar is false where it is 0, and true where it is any other number.
+// bar is false where it is 0, and true where it is any other number: C may hand over any.
 #[unsafe(no_mangle)]
 pub extern "C" fn compared_uv_poly(p: &[f64], s: u32, t: f64, bar: u32) -> f64
     ensures { result ≡ uv_poly p.now s t (not (eqb bar 0)) }
@@ -64,11 +66,8 @@ pub extern "C" fn compared_uv_sums(t: f64, w: f64) -> ComparedSums
     ensures u { result.u ≡ u_sum t w }
     ensures v { result.v ≡ v_sum t w }
 {
-    let sums = expansion_polynomials::uv_sums(t, w);
-    ComparedSums {
-        u: sums.u,
-        v: sums.v,
-    }
+    let Sums { u, v } = expansion_polynomials::uv_sums(t, w);
+    ComparedSums { u, v }
 }
 
 #[unsafe(no_mangle)]
@@ -79,8 +78,8 @@ pub extern "C" fn compared_pbdv_elementary(v: f64, x: f64) -> ComparedMantissas
 {
     let m = expansion_elementary::pbdv_elementary(v, x);
     ComparedMantissas {
-        value: m.value,
-        derivative: m.derivative,
+        value: m.pair.value,
+        derivative: m.pair.derivative,
         exponent: m.exponent,
     }
 }

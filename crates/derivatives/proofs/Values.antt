@@ -1,10 +1,6 @@
 -- Derivatives behind 01's examples, of D at x = 0 and f = 0, as laws for the crates above.
-use mathlib.Core.Path.{◌≡◌, ap}
-use Prim.Native.Nat.{ℕ}
-use mathlib.Core.Bool.{false}
-use mathlib.Core.List.{List}
-use lib.ListN.{get_or}
-use lib.Ieee.{Float, nan, neg}
+use Rattle.std.proofs.Common.{◌≡◌, ap, ℕ, false, List, get_or}
+use Rattle.std.specs.Float.Ieee.{Float, nan, neg}
 use Rattle.floats.specs.Operations.{decimal, f0, f1}
 use Rattle.floats.specs.declared.Function.TheVariants.{D}
 use Rattle.derivatives.specs.Derivatives.{derivative}

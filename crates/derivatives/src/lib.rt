@@ -6,34 +6,26 @@ ghost use Rattle.std.specs.Prelude.{◌≡◌};
 ghost use Rattle.derivatives.specs.Derivatives.{derivative};
 
 use floats::Function;
-use order::Rung;
+use order::{Adjacent, Rung, Sequence};
 use signs::abs;
 
 // The derivative of rung k, from its value and that of the rung above it.
-pub fn derivative(
-    function: Function,
-    below: bool,
-    x: f64,
-    f: f64,
-    k: Rung,
-    low: f64,
-    high: f64,
-) -> f64
-    ensures { result ≡ derivative function below x f k low high }
+pub fn derivative(sequence: Sequence, k: Rung, two: Adjacent) -> f64
+    ensures { result
+        ≡ derivative sequence.function sequence.below sequence.x sequence.f k two.low two.high }
 {
-    let kf = k as f64;
-    match function {
-        Function::D => {
-            if below {
-                return -0.5 * x * low - (abs(f) + kf) * high;
-            }
-            0.5 * x * low - high
-        }
-        Function::V => {
-            if below {
-                return -0.5 * x * low + high;
-            }
-            0.5 * x * low - (f + kf + 1.0) * high
-        }
+    let Sequence {
+        function,
+        below,
+        x,
+        f,
+    } = sequence;
+    let Adjacent { low, high } = two;
+    let k = f64::from(k);
+    match (function, below) {
+        (Function::D, false) => 0.5 * x * low - high,
+        (Function::D, true) => -0.5 * x * low - (abs(f) + k) * high,
+        (Function::V, false) => 0.5 * x * low - (f + k + 1.0) * high,
+        (Function::V, true) => -0.5 * x * low + high,
     }
 }

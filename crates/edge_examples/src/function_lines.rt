@@ -1,12 +1,11 @@
 // The functions below the tables.
 
-use crate::printing;
+use crate::printing::{Bits, Shown};
+use std::f64::consts::PI;
 use std::io;
 
 fn line(rt: &HostRuntime, text: &str, x: f64) -> io::Result<()> {
-    printing::name(rt, text)?;
-    printing::number(rt, x)?;
-    printing::end(rt)
+    println!(rt; "{text}: {}", Bits(x))
 }
 
 // P1 to P4.
@@ -20,11 +19,10 @@ pub fn examples(rt: &HostRuntime) -> io::Result<()> {
 
 // The sine at whole quarter turns.
 pub fn sines(rt: &HostRuntime) -> io::Result<()> {
-    let pi = 3.141592653589793;
-    line(rt, "sin(-0.5 pi)", trigonometric::sin(-0.5 * pi))?;
-    line(rt, "sin(-1.5 pi)", trigonometric::sin(-1.5 * pi))?;
-    line(rt, "sin(-1001.5 pi)", trigonometric::sin(-1001.5 * pi))?;
-    line(rt, "sin(1001.5 pi)", trigonometric::sin(1001.5 * pi))
+    line(rt, "sin(-0.5 pi)", trigonometric::sin(-0.5 * PI))?;
+    line(rt, "sin(-1.5 pi)", trigonometric::sin(-1.5 * PI))?;
+    line(rt, "sin(-1001.5 pi)", trigonometric::sin(-1001.5 * PI))?;
+    line(rt, "sin(1001.5 pi)", trigonometric::sin(1001.5 * PI))
 }
 
 // V's start sum at whole orders, where the sine keeps 1e300 out.
@@ -35,10 +33,8 @@ pub fn whole_orders(rt: &HostRuntime) -> io::Result<()> {
 
 // The maximum at NaN: by itself, and in a series whose terms become NaN.
 pub fn maxima(rt: &HostRuntime) -> io::Result<()> {
-    let nan = 0.0 / 0.0;
-    line(rt, "max(NaN, 1)", extremes::max(nan, 1.0))?;
-    line(rt, "max(1, NaN)", extremes::max(1.0, nan))?;
-    printing::name(rt, "maclaurin(1e300, 1e10, 1, -1, 0)")?;
-    printing::answer(rt, maclaurin::maclaurin(1e300, 1e10, 1.0, -1.0, 0.0))?;
-    printing::end(rt)
+    line(rt, "max(NaN, 1)", extremes::max(f64::NAN, 1.0))?;
+    line(rt, "max(1, NaN)", extremes::max(1.0, f64::NAN))?;
+    let series = maclaurin::maclaurin(1e300, 1e10, 1.0, -1.0, 0.0);
+    println!(rt; "maclaurin(1e300, 1e10, 1, -1, 0): {}", Shown(series))
 }

@@ -1,42 +1,45 @@
-// A line is a name, and the bits of numbers in hexadecimal digits; a NaN is the word.
+// How a line shows what was answered.
 
-use answer::Answer;
-use std::io;
+use answer::{Answer, Pair};
+use std::fmt;
 
-pub fn name(rt: &HostRuntime, text: &str) -> io::Result<()> {
-    print!(rt; "{text}:")
-}
+// A number by its bits, in hexadecimal digits; a NaN is the word.
+#[derive(Drop)]
+pub struct Bits(pub f64);
 
-pub fn number(rt: &HostRuntime, x: f64) -> io::Result<()> {
-    if x != x {
-        return print!(rt; " NaN");
+impl fmt::Display for Bits {
+    fn fmt<W: fmt::Write>(&self, f: &mut fmt::Formatter<W>) -> fmt::Result {
+        let x = self.0;
+        if x.is_nan() {
+            return f.write_str("NaN");
+        }
+        let bits = x.to_bits();
+        write!(f, "{bits:016x}")
     }
-    print!(rt; " {:016x}", f64::to_bits(x))
-}
-
-pub fn whole(rt: &HostRuntime, n: u32) -> io::Result<()> {
-    print!(rt; " {n}")
-}
-
-pub fn end(rt: &HostRuntime) -> io::Result<()> {
-    println!(rt; "")
 }
 
 // The refusal's number, and the pair where there is one.
-pub fn answer(rt: &HostRuntime, a: Answer) -> io::Result<()> {
-    match a {
-        Answer::Pair(value, derivative) => {
-            whole(rt, 0)?;
-            number(rt, value)?;
-            number(rt, derivative)
+#[derive(Drop)]
+pub struct Shown(pub Answer);
+
+impl fmt::Display for Shown {
+    fn fmt<W: fmt::Write>(&self, f: &mut fmt::Formatter<W>) -> fmt::Result {
+        match self.0 {
+            Ok(Pair { value, derivative }) => write!(f, "0 {} {}", Bits(value), Bits(derivative)),
+            Err(refusal) => write!(f, "{}", u32::from(refusal)),
         }
-        Answer::Refused(n) => whole(rt, n as u32),
     }
 }
 
-pub fn slots(rt: &HostRuntime, t: &[f64]) -> io::Result<()> {
-    for x in t {
-        number(rt, *x)?;
+// The slots of a table, each after a space.
+#[derive(Drop)]
+pub struct Slots<'a>(pub &'a [f64]);
+
+impl fmt::Display for Slots<'_> {
+    fn fmt<W: fmt::Write>(&self, f: &mut fmt::Formatter<W>) -> fmt::Result {
+        for x in self.0 {
+            write!(f, " {}", Bits(*x))?;
+        }
+        Ok(())
     }
-    Ok(())
 }

@@ -1,15 +1,10 @@
 -- The argument of `lgam_stirling_corr` is 13 or more: bounds of the order go through the two operations.
-use mathlib.Core.Path.{◌≡◌, refl, sym, ◌∙◌, subst}
-use mathlib.Core.Bool.{Bool, true, false}
-use Prim.Native.Nat.{ℕ, ◌*◌}
-use native.Mathlib.Omega.{arith}
-use borrow.Author.Tests.{ltb-true}
-use lib.Dec.{T, lit≤, lit<}
-use lib.IntN.{ℤ}
-use lib.Ieee.{Float, nan, inf, fin, binary64, up, down, lt, le, neg, of_bits}
-use lib.Ieee.Bits.{is_true}
-use lib.Ieee.Exact.{HasValue}
-use lib.Ieee.Fits.{down_pos}
+use Rattle.std.proofs.Common.{◌≡◌, refl, sym, ◌∙◌, subst, Bool, true, false, ℕ, ◌*◌, arith, ltb-true, T, lit≤, lit<, ℤ}
+use Rattle.std.proofs.Common.{Float}
+use Rattle.std.specs.Float.Ieee.{nan, inf, fin, binary64, up, down, lt, le, neg, of_bits}
+use Rattle.std.specs.Float.Ieee.Bits.{is_true}
+use Rattle.std.specs.Float.Ieee.Exact.{HasValue}
+use Rattle.std.specs.Float.Ieee.Fits.{down_pos}
 use Rattle.floats.specs.Operations.{f½}
 use Rattle.floats.specs.Facts.{Between, SignedLe}
 use Rattle.floats.proofs.Values.{own_value}

@@ -6,30 +6,24 @@ ghost use Rattle.std.specs.Prelude.{◌≡◌};
 ghost use Rattle.answer.specs.Answer.{refusal_of, pair_of};
 ghost use Rattle.expansion.specs.Expansion.{refusal, answer};
 
-use answer::Answer;
+use answer::{Answer, Refusal};
 use expansion_elementary::pbdv_elementary;
 use signs::{is_infinite, is_nan};
 
-// The number of the refusal, 0 where there is none: a NaN, an order out of range, an infinite argument.
-fn refusal(v: f64, x: f64) -> u8
-    ensures { result ≡ refusal v x }
+// Whether the request is refused: a NaN, an order outside the expansion's range, an infinite argument.
+fn check(v: f64, x: f64) -> Result<(), Refusal>
+    ensures { refusal_of result ≡ refusal v x }
 {
-    if is_nan(v) {
-        return 1;
+    if is_nan(v) || is_nan(x) {
+        return Err(Refusal::NotANumber);
     }
-    if is_nan(x) {
-        return 1;
-    }
-    if !(v > -2147483648.0) {
-        return 4;
-    }
-    if !(v <= -20.0) {
-        return 4;
+    if !(-2147483648.0 < v && v <= -20.0) {
+        return Err(Refusal::OrderOutsideExpansion);
     }
     if is_infinite(x) {
-        return 5;
+        return Err(Refusal::Infinite);
     }
-    0
+    Ok(())
 }
 
 // The request: D of order v and its derivative at x.
@@ -37,11 +31,7 @@ pub fn d_expansion(v: f64, x: f64) -> Answer
     ensures number { refusal_of result ≡ refusal v x }
     ensures pair { pair_of result ≡ answer v x }
 {
-    let number = refusal(v, x);
-    if number != 0 {
-        return Answer::Refused(number);
-    }
+    check(v, x)?;
     let m = pbdv_elementary(v, x);
-    let d = mul_exp::mul_exp_both(m.value, m.derivative, m.exponent);
-    Answer::Pair(d.first, d.second)
+    Ok(mul_exp::mul_exp_both(m.pair, m.exponent))
 }

@@ -1,8 +1,9 @@
 -- Lowest terms are the same number: the divisor that `lowest` takes divides both.
-use mathlib.Core.Path.{◌≡◌, refl, sym, ◌∙◌, ap}
-use Prim.Native.Nat.{ℕ, zero, suc, ◌*◌, ◌/◌, ◌%◌, ◌≤◌, ◌∣◌}
-use native.Mathlib.Nat.{dvd_refl, dvd-zero, dvd-mod_iff, mod-lt, zero-lt-suc, le_trans, le_of_suc-le-suc, le-suc, not-suc-le-zero, mul-div_cancel', mul_assoc, mul_left_comm, zero-mul}
-use lib.IntN.{ℤ, pos, negsuc, neg_ℤ, ◌*ℤ◌}
+use Rattle.std.proofs.Common.{◌≡◌, refl, sym, ◌∙◌, ap, ℕ, zero, suc, ◌*◌, ◌/◌, ◌%◌, ◌≤◌, mod-lt, zero-lt-suc, le_trans}
+use Rattle.std.proofs.Common.{le_of_suc-le-suc, not-suc-le-zero, mul_assoc, mul_left_comm, zero-mul, ℤ, pos, negsuc}
+use Rattle.std.proofs.Common.{neg_ℤ, ◌*ℤ◌}
+use Prim.Native.Nat.{◌∣◌}
+use Rattle.std.proofs.Math.Nat.{dvd_refl, dvd-zero, dvd-mod_iff, le-suc, mul-div_cancel'}
 use Rattle.expansion_coefficients.specs.Fractions.{numerator, denominator, divisor, lowest}
 
 divides : (n a b : ℕ) → b ≤ n → (divisor n a b ∣ a) × (divisor n a b ∣ b)

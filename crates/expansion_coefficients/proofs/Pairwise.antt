@@ -1,14 +1,9 @@
 -- A test that antt computes over two lists at once, and the law that carries it to each place; the test of two floats for equality.
-use mathlib.Core.Path.{◌≡◌, refl, ap}
-use mathlib.Core.Bool.{Bool, true, false, ◌&&◌, beq}
-use mathlib.Core.List.{List, [], ◌∷◌}
-use Prim.Native.Nat.{ℕ, zero, suc, ◌<◌}
-use native.Mathlib.Nat.{le_of_suc-le-suc, not-suc-le-zero}
-use lib.Dec.{T, eqb, eqb→eq}
-use lib.IntN.{ℤ, pos, negsuc}
-use lib.Ieee.{Float, nan, inf, fin}
-use lib.Ieee.Fits.{and_l, and_r}
-use lib.ListN.{length, get_or}
+use Rattle.std.proofs.Common.{◌≡◌, refl, ap, Bool, true, false, ◌&&◌, List, [], ◌∷◌, ℕ, zero, suc, ◌<◌}
+use Rattle.std.proofs.Common.{le_of_suc-le-suc, not-suc-le-zero, T, eqb, eqb→eq, ℤ, pos, negsuc, Float, length, get_or}
+use Rattle.std.specs.Float.{nan, inf, fin}
+use Rattle.std.specs.Float.Ieee.Fits.{and_l, and_r}
+use Rattle.std.proofs.Math.Bool.{beq}
 
 -- ---- every number below n
 

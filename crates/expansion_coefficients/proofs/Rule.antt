@@ -1,11 +1,8 @@
 -- The table is right: three tests that antt computes, two over the whole table and one over s, and the laws that carry them to each entry and each s.
 --
-use mathlib.Core.Path.{◌≡◌, refl}
-use mathlib.Core.Bool.{Bool}
-use Prim.Native.Nat.{ℕ, ◌<◌}
-use lib.Dec.{T}
-use lib.ListN.{length}
-use lib.Ieee.{Float, nan, of_bits, size, round}
+use Rattle.std.proofs.Common.{◌≡◌, refl, Bool, ℕ, ◌<◌, T, length, Float}
+use Rattle.std.specs.Float.{nan}
+use Rattle.std.specs.Float.Ieee.{of_bits, size, round}
 use Rattle.expansion_coefficients.specs.Fractions.{Fraction, whole}
 use Rattle.expansion_coefficients.specs.Dlmf.{obeys, fractions}
 use Rattle.expansion_coefficients.specs.Nearest.{within_one_unit, nearest_to, TableRight}

@@ -1,6 +1,6 @@
 // The coefficients of u_s and v_s (DLMF 12.10.9-13): the source's U_POLY and V_POLY in one table, u_0 to u_10 and then
 // v_0 to v_10. A row has every second coefficient of its polynomial, from the highest power down. specs/Dlmf.antt has
-// the fractions that they stand for.
+// the fractions that they stand for. One list, since the theorem about it is about one list.
 
 pub const COEFFICIENTS: [f64; 172] = [
     // u_0

@@ -4,44 +4,34 @@
 #![tactic(auto)]
 
 ghost use Rattle.std.specs.Prelude.{◌≡◌};
-ghost use Rattle.expansion_elementary.specs.Mantissas.{clamped, logarithm_of, exponent_of, weight, g_bar, mantissas};
+ghost use Rattle.expansion_elementary.specs.Mantissas.{logarithm_of, exponent_of, weight, g_bar, mantissas};
 
+use answer::Pair;
 use expansion_polynomials::uv_sums;
 use logarithm::ln;
 use roots::square_root;
 
-// D and its derivative as mantissas with one exponent: value * e^exponent and derivative * e^exponent.
+// D and its derivative as mantissas with one exponent: each is its mantissa times e^exponent.
 #[derive(Clone, Copy)]
 pub struct Mantissas {
-    pub value: f64,
-    pub derivative: f64,
+    pub pair: Pair,
     pub exponent: f64,
 }
 
-// x within -1e9 and 1e9: far beyond, the answers underflow or overflow, and so would the polynomials.
-fn clamp(x: f64) -> f64
-    ensures { result ≡ clamped x }
-{
-    if x < -1e9 {
-        return -1e9;
-    }
-    if x > 1e9 {
-        return 1e9;
-    }
-    x
-}
-
 // ln(x/2 + s), without cancellation below 0.
+#[tactic(auto, unfolding(crate::specs::Mantissas::logarithm_of))]
 fn logarithm_of(a: f64, x: f64, s: f64) -> f64
     ensures { result ≡ logarithm_of a x s }
 {
     if x >= 0.0 {
-        return ln(0.5 * x + s);
+        ln(0.5 * x + s)
+    } else {
+        ln(a) - ln(s - 0.5 * x)
     }
-    ln(a) - ln(s - 0.5 * x)
 }
 
 // The exponent of both mantissas.
+#[tactic(auto, unfolding(crate::specs::Mantissas::exponent_of))]
 fn exponent_of(a: f64, x: f64, s: f64) -> f64
     ensures { result ≡ exponent_of a x s }
 {
@@ -49,6 +39,7 @@ fn exponent_of(a: f64, x: f64, s: f64) -> f64
 }
 
 // What the polynomials' sums are in powers of.
+#[tactic(auto, unfolding(crate::specs::Mantissas::weight))]
 fn weight(a: f64, t: f64) -> f64
     ensures { result ≡ weight a t }
 {
@@ -57,31 +48,33 @@ fn weight(a: f64, t: f64) -> f64
 }
 
 // The factor gbar (DLMF 12.10.28), up to what stands in the exponent.
+#[tactic(auto, unfolding(crate::specs::Mantissas::g_bar))]
 fn g_bar(a: f64) -> f64
     ensures { result ≡ g_bar a }
 {
     1.0 + 0.5 * exponential::exp_m1(-gamma_ratio::ln_gamma_ratio(a))
 }
 
-// The expansion, for every f64: orders of -20 and below are those that it is made for. The factor g comes first: the
-// roots and sums do not wait for it.
+// The expansion, for every f64: orders of -20 and below are those that it is made for. Far beyond a size of 1e9 of x
+// the answers underflow or overflow, and so would the polynomials. The factor g comes first: the roots and sums do not
+// wait for it.
 pub fn pbdv_elementary(v: f64, x: f64) -> Mantissas
-    ensures value { result.value ≡ (mantissas v x).0 }
-    ensures derivative { result.derivative ≡ (mantissas v x).1 }
+    ensures value { result.pair.value ≡ (mantissas v x).0 }
+    ensures derivative { result.pair.derivative ≡ (mantissas v x).1 }
     ensures exponent { result.exponent ≡ (mantissas v x).2 }
 {
     let a = -v - 0.5;
     let g = g_bar(a);
-    let y = clamp(x);
+    let y = x.clamp(-1e9, 1e9);
     let s = square_root(0.25 * y * y + a);
     let exponent = exponent_of(a, y, s);
     let t = 0.5 * y / square_root(a);
     let sums = uv_sums(t, weight(a, t));
-    let divisor = square_root(2.0 * s);
-    let factor = square_root(0.5 * s);
     Mantissas {
-        value: g * sums.u / divisor,
-        derivative: -g * sums.v * factor,
-        exponent: exponent,
+        pair: Pair {
+            value: g * sums.u / square_root(2.0 * s),
+            derivative: -g * sums.v * square_root(0.5 * s),
+        },
+        exponent,
     }
 }

@@ -1,10 +1,5 @@
 -- The rows of the table stand within it.
-use mathlib.Core.Path.{◌≡◌, sym, subst}
-use mathlib.Core.List.{List}
-use Prim.Native.Nat.{ℕ, ◌≤◌}
-use lib.Dec.{T, leb, leb→le}
-use lib.Ieee.{Float}
-use lib.ListN.{length}
+use Rattle.std.proofs.Common.{◌≡◌, sym, subst, List, ℕ, ◌≤◌, T, leb, leb→le, length, Float}
 use Rattle.expansion_coefficients.specs.Table.{coefficients}
 
 pub row_within : (c : List Float) (from to : ℕ) → c ≡ coefficients → T (leb from to) → T (leb to 172) → (from ≤ to) × (to ≤ length c)

@@ -1,9 +1,7 @@
 -- What the crates above may know of exp, exp2 and exp_m1 beside their contracts.
-use mathlib.Core.Path.{◌≡◌, ap}
-use mathlib.Core.List.{List}
-use Prim.Native.Nat.{ℕ}
-use lib.ListN.{get_or}
-use lib.Ieee.{Float, nan, neg}
+use Rattle.std.proofs.Common.{◌≡◌, ap, List, ℕ, get_or}
+use Rattle.std.specs.Float.{Float, nan}
+use Rattle.std.specs.Float.Ieee.{neg}
 use Rattle.floats.specs.Operations.{f0, f1}
 use Rattle.exponential.specs.Exponential.{exp, exp2}
 use Rattle.exponential.specs.Exponential.Examples.{computed, values, examples_hold}

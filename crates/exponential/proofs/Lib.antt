@@ -1,3 +1,4 @@
 pub mod PowersOfTwo
 pub mod NearRange
+pub mod Cases
 pub mod Laws

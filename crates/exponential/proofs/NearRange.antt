@@ -1,14 +1,10 @@
 -- The range of near in exp and exp2: the exponent k is at most 1081 in size, so that binary64 has both powers of two that k is split into, and the cast to
 -- i32 never saturates.
-use mathlib.Core.Path.{◌≡◌, refl, subst}
-use mathlib.Core.Bool.{true, false}
-use Prim.Native.Nat.{◌*◌, ◌^◌, ◌≤◌}
-use native.Mathlib.Omega.{arith}
-use borrow.Author.Tests.{ltb-false}
-use lib.Dec.{T, lit≤, lit<}
-use lib.Signed.{mag}
-use lib.Ieee.{Float, nan, inf, fin, up, down, neg, lt, le, ne, of_bits}
-use lib.Ieee.Exact.{HasValue}
+use Rattle.std.proofs.Common.{◌≡◌, refl, subst, true, false, ◌*◌, ◌^◌, ◌≤◌, arith, ltb-false, T, lit≤, lit<}
+use Rattle.std.specs.Float.{Float, nan, inf, fin}
+use Rattle.std.specs.Float.Ieee.{up, down, neg, lt, le, ne, of_bits}
+use Rattle.std.specs.Float.Ieee.Exact.{HasValue}
+use Rattle.std.specs.Int.Signed.{mag}
 use Rattle.floats.specs.Operations.{◌⊗◌}
 use Rattle.floats.proofs.Booleans.{neither}
 use Rattle.floats.proofs.Bounds.{mul_between}

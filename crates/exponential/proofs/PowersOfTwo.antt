@@ -1,15 +1,13 @@
 -- The bit pattern of a power of two: for h of size up to 1021, h + 1023 is the exponent's field of 2 ^ h, and the digits below it are 0.
-use mathlib.Core.Path.{◌≡◌, refl, ◌∙◌}
-use mathlib.Core.Bool.{Bool, true, false, not, ◌&&◌}
-use Prim.Native.Nat.{ℕ, zero, suc, ◌+◌, ◌-◌, ◌*◌, ◌/◌, ◌%◌, ◌<◌, ◌≤◌}
-use native.Mathlib.Nat.{mul-mod_left}
-use native.Mathlib.Omega.{arith}
-use borrow.Author.Tests.{le-ltb, le-leb, lt-leb, ne_eqb}
-use lib.Dec.{T, leb, eqb}
-use lib.IntN.{ℤ, pos, negsuc, ◌+ℤ◌}
-use lib.Signed.{mag}
-use lib.Count.{count_trailing_zeros}
-use lib.Ieee.{fin, binary64, minus, odd, of_fields, of_bits, nan_bits}
+use Rattle.std.proofs.Common.{SFits, w32, nat_abs, to_z-of_z, ◌≡◌, refl, ◌∙◌, Bool, true, false, not, ◌&&◌, ℕ, zero}
+use Rattle.std.proofs.Common.{suc, ◌+◌, ◌-◌, ◌*◌, ◌/◌, ◌%◌, ◌<◌, ◌≤◌, arith, le-ltb, le-leb, ne_eqb, T, leb, eqb, ℤ}
+use Rattle.std.proofs.Common.{pos, negsuc, ◌+ℤ◌}
+use Rattle.std.specs.Float.{fin, binary64}
+use Rattle.std.specs.Float.Ieee.{minus, odd, of_fields, of_bits, nan_bits}
+use Rattle.std.proofs.Math.Nat.{mul-mod_left}
+use Rattle.std.specs.Int.Signed.{mag}
+use Rattle.std.specs.Int.Count.{count_trailing_zeros}
+use borrow.Author.Tests.{lt-leb}
 
 -- a pattern whose digits are all 0 is no NaN's
 pub no_nan : (e : ℕ) → T (not (nan_bits binary64 (e * 4503599627370496)))
@@ -58,3 +56,12 @@ field (negsuc n) k =
       below = omega arith;
       is = of_field (1023 - suc n) (omega arith) (omega arith) ∙ rw (lt-leb 1074 (1023 - suc n + 51) (omega arith), d);
     }
+
+pub sum_fits : (h : ℤ) → mag h ≤ 1021 → SFits w32 (h +ℤ pos 1023)
+sum_fits h k = let f = field h k in rw f.sum (record { sfits = omega arith })
+
+pub power_is : (h : ℤ) → mag h ≤ 1021 → of_bits binary64 (nat_abs (h +ℤ pos 1023) * 4503599627370496) ≡ fin false 1 h
+power_is h k = let f = field h k in rw f.sum f.is
+
+-- what `power_of_two` takes
+pub ruleset power_laws = (no_nan, sum_fits, power_is, to_z-of_z)

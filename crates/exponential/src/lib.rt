@@ -10,6 +10,7 @@ use floats::LN_2;
 use near::near;
 
 // 2^h, by its bit pattern.
+#[tactic(auto, using(crate::proofs::PowersOfTwo::power_laws))]
 fn power_of_two(h: i32) -> f64
     requires { mag h ≤ 1021 }
     ensures { result ≡ power_of_two h }
@@ -18,6 +19,7 @@ fn power_of_two(h: i32) -> f64
 }
 
 // p 2^k, in two factors: 2^k alone may be no float.
+#[tactic(auto, using(crate::proofs::Cases::scaled_laws))]
 fn scaled(p: f64, k: i32) -> f64
     requires { mag k ≤ 1081 }
     ensures { result ≡ scaled p k }
@@ -26,65 +28,62 @@ fn scaled(p: f64, k: i32) -> f64
     p * power_of_two(h) * power_of_two(k - h)
 }
 
-// The series from the inside out, with 16 to `last` as divisors.
+// The series from the inside out, with 16 to `last` as divisors, so `last` is a number.
 fn exp_sum(r: f64, last: u32) -> f64
     requires { last ≤ 2 }
     ensures { result ≡ exp_sum r last }
 {
     let mut p = 1.0;
-    let mut j: u32 = 17;
-    while j > last {
-        j -= 1;
-        p = 1.0 + r * p / (j as f64);
+    for j in (last..17).rev() {
+        p = 1.0 + r * p / f64::from(j);
     }
     p
 }
 
 // e^y.
+#[tactic(auto, using(crate::proofs::Cases::exp_laws))]
 pub fn exp(y: f64) -> f64
     ensures { result ≡ exp y }
 {
-    if y != y {
-        return y;
+    if y.is_nan() {
+        y
+    } else if y > 709.782712893384 {
+        f64::INFINITY
+    } else if y < -745.2 {
+        0.0
+    } else {
+        let k = near(y * 1.4426950408889634);
+        let f = f64::from(k);
+        let r = y - f * 0.6931471803691238 - f * 1.9082149292705877e-10;
+        scaled(exp_sum(r, 1), k)
     }
-    if y > 709.782712893384 {
-        return 1.0 / 0.0;
-    }
-    if y < -745.2 {
-        return 0.0;
-    }
-    let k = near(y * 1.4426950408889634);
-    let f = k as f64;
-    let r = y - f * 0.6931471803691238 - f * 1.9082149292705877e-10;
-    scaled(exp_sum(r, 1), k)
 }
 
 // 2^y.
+#[tactic(auto, using(crate::proofs::Cases::exp2_laws))]
 pub fn exp2(y: f64) -> f64
     ensures { result ≡ exp2 y }
 {
-    if y != y {
-        return y;
+    if y.is_nan() {
+        y
+    } else if y >= 1024.0 {
+        f64::INFINITY
+    } else if y < -1080.0 {
+        0.0
+    } else {
+        let k = near(y);
+        scaled(exp_sum((y - f64::from(k)) * LN_2, 1), k)
     }
-    if y >= 1024.0 {
-        return 1.0 / 0.0;
-    }
-    if y < -1080.0 {
-        return 0.0;
-    }
-    let k = near(y);
-    scaled(exp_sum((y - k as f64) * LN_2, 1), k)
 }
 
 // e^y - 1, by the series itself up to size 0.5.
+#[tactic(auto, using(crate::specs::Exponential::Open::exp_m1_is))]
 pub fn exp_m1(y: f64) -> f64
     ensures { result ≡ exp_m1 y }
 {
-    if y > 0.5 {
-        return exp(y) - 1.0;
+    if y > 0.5 || y < -0.5 {
+        exp(y) - 1.0
+    } else {
+        y * exp_sum(y, 2)
     }
-    if y < -0.5 {
-        return exp(y) - 1.0;
-    }
-    y * exp_sum(y, 2)
 }

@@ -1,6 +1,7 @@
 -- What 01 says of minimum and maximum, as theorems about the definitions.
-use mathlib.Core.Path.{◌≡◌, refl}
-use lib.Ieee.{Float, nan, inf, fin, neg, lt, is_nan, of_bits}
+use Rattle.std.proofs.Common.{◌≡◌, refl}
+use Rattle.std.specs.Float.{Float, nan, inf, fin}
+use Rattle.std.specs.Float.Ieee.{neg, lt, is_nan, of_bits}
 use Rattle.floats.specs.Operations.{f0, f1}
 use Rattle.extremes.specs.Extremes.{lesser, greater}
 

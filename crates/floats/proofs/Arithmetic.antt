@@ -1,14 +1,14 @@
 -- A sum, a difference, a product and a quotient, by any fractions that the operands equal.
-use mathlib.Core.Path.{◌≡◌, refl, sym, ap, ◌∙◌, subst}
-use Prim.Native.Nat.{ℕ, zero, suc, ◌+◌, ◌-◌, ◌*◌, ◌≤◌, ◌<◌}
-use native.Mathlib.Nat.{lt_irrefl, not-le_of_lt, zero-lt-suc, zero-mul, mul_comm, mul-pos, mul-mul-mul_comm}
-use mathlib.Core.Bool.{Bool, true, false, not, ◌&&◌, beq, cond}
-use lib.IntN.{ℤ}
-use lib.Dec.{T, ltb, eqb, ltb→lt, eqb→eq}
-use lib.Ieee.{Float, nan, inf, fin, Format, up, down, round, neg, sum, add, sub, unlike, mul, div}
-use lib.Ieee.Fits.{up_pos, down_pos}
-use lib.Ieee.Exact.{HasValue}
-use lib.Ieee.Scale.{round_same}
+use Rattle.std.proofs.Common.{◌≡◌, refl, sym, ap, ◌∙◌, subst, ℕ, zero, suc, ◌+◌, ◌-◌, ◌*◌, ◌≤◌, ◌<◌, lt_irrefl}
+use Rattle.std.proofs.Common.{not-le_of_lt, zero-lt-suc, zero-mul, mul_comm, mul-pos, Bool, true, false, not, ◌&&◌}
+use Rattle.std.proofs.Common.{cond, ℤ, T, ltb, eqb, ltb→lt, eqb→eq, Float}
+use Rattle.std.specs.Float.{nan, inf, fin, Format}
+use Rattle.std.specs.Float.Ieee.{up, down, round, neg, sum, add, sub, unlike, mul, div}
+use Rattle.std.specs.Float.Ieee.Exact.{HasValue}
+use Rattle.std.proofs.Math.Nat.{mul-mul-mul_comm}
+use Rattle.std.specs.Float.Ieee.Fits.{up_pos, down_pos}
+use Rattle.std.specs.Float.Ieee.Scale.{round_same}
+use Rattle.std.proofs.Math.Bool.{beq}
 use Rattle.floats.proofs.Tests.{ltb_same, add_scale, sub_scale, scale_l, scale_r}
 use Rattle.floats.proofs.Values.{neg_value}
 

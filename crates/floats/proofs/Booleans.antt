@@ -1,8 +1,6 @@
 -- Laws about Booleans: of `T b`, that b is true, and of equations.
-use mathlib.Core.Path.{◌≡◌, refl, sym}
-use mathlib.Core.Logic.{◌⊎◌, inl, inr}
-use mathlib.Core.Bool.{Bool, true, false, not, ◌&&◌, ◌||◌, beq, true≢false}
-use lib.Dec.{T}
+use Rattle.std.proofs.Common.{◌≡◌, refl, sym, ◌⊎◌, inl, inr, Bool, true, false, not, ◌&&◌, ◌||◌, true≢false, T}
+use Rattle.std.proofs.Math.Bool.{beq}
 
 pub same_test : (a b : Bool) → (T a → T b) → (T b → T a) → a ≡ b
 same_test true true p q = refl

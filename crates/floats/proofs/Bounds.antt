@@ -1,18 +1,16 @@
 -- Bounds of a size go through the operations of binary64, where the ends are values that it holds: rounding does not cross them.
-use mathlib.Core.Path.{◌≡◌, refl, sym, ◌∙◌, ap, subst}
-use Prim.Native.Nat.{ℕ, ◌+◌, ◌-◌, ◌*◌, ◌/◌, ◌^◌, ◌≤◌, ◌<◌, zero, suc, min}
-use mathlib.Core.Bool.{Bool, true, false, not, cond, ◌&&◌, ◌||◌, beq}
-use native.Mathlib.Nat.{le_refl, le_trans, le_antisymm, le_of_lt, le_of_suc-le-suc, lt_of_lt_of_le, div-lt_iff_lt-mul, le-div_iff_mul-le}
-use native.Mathlib.Nat.{mul_assoc, mul-pos, zero-mul, mul-le-mul_right, mul-lt-mul_of_pos_right, le_of_mul-le-mul_right, lt_of_mul-lt-mul_right}
-use native.Mathlib.Omega.{arith}
-use borrow.Author.Tests.{lt-ltb, ne_eqb}
-use lib.Dec.{T, ltb, eqb, lit<}
-use lib.IntN.{pos, neg_ℤ}
-use lib.Pow.{pow-add, pow_mono, pow_pos}
-use lib.Ieee.{Float, fin, binary64, size, round, sum, neg, add, sub, mul, odd, le, fits, unlike, of_bits, to_signed}
-use lib.Ieee.Exact.{HasValue, odd_sign}
-use lib.Ieee.Fits.{odd-fits, round-fits}
-use lib.Ieee.Scale.{grid}
+use Rattle.std.proofs.Common.{◌≡◌, refl, sym, ◌∙◌, ap, subst, ℕ, ◌+◌, ◌-◌, ◌*◌, ◌/◌, ◌^◌, ◌≤◌, ◌<◌, zero, suc, min}
+use Rattle.std.proofs.Common.{Bool, true, false, not, cond, ◌&&◌, ◌||◌, le_refl, le_trans, le_antisymm, le_of_lt}
+use Rattle.std.proofs.Common.{le_of_suc-le-suc, lt_of_lt_of_le, div-lt_iff_lt-mul, le-div_iff_mul-le, mul_assoc}
+use Rattle.std.proofs.Common.{mul-pos, zero-mul, mul-le-mul_right, mul-lt-mul_of_pos_right, le_of_mul-le-mul_right}
+use Rattle.std.proofs.Common.{lt_of_mul-lt-mul_right, arith, lt-ltb, ne_eqb, T, ltb, eqb, lit<, pos, neg_ℤ, pow-add}
+use Rattle.std.proofs.Common.{pow_mono, pow_pos, Float}
+use Rattle.std.specs.Float.{fin, binary64}
+use Rattle.std.specs.Float.Ieee.{size, round, sum, neg, add, sub, mul, odd, le, fits, unlike, of_bits, to_signed}
+use Rattle.std.specs.Float.Ieee.Exact.{HasValue, odd_sign}
+use Rattle.std.specs.Float.Ieee.Fits.{odd-fits, round-fits}
+use Rattle.std.specs.Float.Ieee.Scale.{grid}
+use Rattle.std.proofs.Math.Bool.{beq}
 use Rattle.floats.specs.Operations.{f0}
 use Rattle.floats.specs.Facts.{Between, signed_int}
 use Rattle.floats.proofs.Tests.{sub_mul}

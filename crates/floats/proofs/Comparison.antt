@@ -1,15 +1,15 @@
 -- The order of floats: by any fractions that the operands equal, and on all floats transitive and, NaN aside, total.
-use mathlib.Core.Path.{◌≡◌, refl, sym, ap, ◌∙◌, subst}
-use mathlib.Core.Logic.{◌⊎◌, inl, inr}
-use Prim.Native.Nat.{ℕ, ◌+◌, ◌*◌, ◌≤◌, ◌<◌}
-use native.Mathlib.Nat.{le_of_eq, le_of_lt, eq-or-lt_of_le, lt_of_not-le, zero-mul, mul_comm, mul_assoc, mul_right_comm, mul-pos, eq_of_mul-eq-mul_right}
-use native.Mathlib.Omega.{arith}
-use mathlib.Core.Bool.{Bool, true, false, not, ◌&&◌, ◌||◌, beq}
-use lib.IntN.{ℤ}
-use lib.Dec.{T, ltb, eqb, ltb→lt, lt→ltb, eqb→eq, T_not, not_T}
-use lib.Ieee.{Float, nan, inf, fin, Format, up, down, lt, le, eq, below, level, fits, is_nan, of_bits}
-use lib.Ieee.Fits.{eq→eqb, and_i, down_pos, and_l, and_r}
-use lib.Ieee.Exact.{HasValue}
+use Rattle.std.proofs.Common.{◌≡◌, refl, sym, ap, ◌∙◌, subst, ◌⊎◌, inl, inr, ℕ, ◌+◌, ◌*◌, ◌≤◌, ◌<◌, le_of_eq, le_of_lt}
+use Rattle.std.proofs.Common.{eq-or-lt_of_le, lt_of_not-le, zero-mul, mul_comm, mul_assoc, mul_right_comm, mul-pos}
+use Rattle.std.proofs.Common.{arith, Bool, true, false, not, ◌&&◌, ◌||◌, ℤ, T, ltb, eqb, ltb→lt, lt→ltb, eqb→eq, T_not}
+use Rattle.std.proofs.Common.{Float}
+use Rattle.std.specs.Float.{nan, inf, fin, Format}
+use Rattle.std.specs.Float.Ieee.{up, down, lt, le, eq, below, level, fits, is_nan, of_bits}
+use Rattle.std.specs.Float.Ieee.Exact.{HasValue}
+use Rattle.std.proofs.Math.Nat.{eq_of_mul-eq-mul_right}
+use Rattle.std.specs.Float.Ieee.Fits.{eq→eqb, and_i, down_pos, and_l, and_r}
+use Rattle.std.proofs.Math.Dec.{not_T}
+use Rattle.std.proofs.Math.Bool.{beq}
 use Rattle.floats.specs.Operations.{f0}
 use Rattle.floats.specs.Facts.{SignedLe}
 use Rattle.floats.proofs.Booleans.{same_test, or_split, or_l, or_r, beq_same}

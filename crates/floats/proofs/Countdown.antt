@@ -1,8 +1,5 @@
 -- A loop that counts j down to `last`: one turn, and the end.
-use mathlib.Core.Path.{◌≡◌, refl, sym, ◌∙◌, ap}
-use Prim.Native.Nat.{ℕ, zero, suc, ◌+◌, ◌-◌, ◌<◌, ◌≤◌}
-use native.Mathlib.Omega.{arith}
-use lib.Ieee.{Float}
+use Rattle.std.proofs.Common.{◌≡◌, refl, sym, ◌∙◌, ap, ℕ, zero, suc, ◌+◌, ◌-◌, ◌<◌, ◌≤◌, arith, Float}
 use Rattle.floats.specs.Loops.{down_to}
 
 no_turn : (f : ℕ → Float → Float) (last : ℕ) (p : Float) → down_to f last 0 p ≡ p

@@ -11,3 +11,4 @@ pub mod Parts
 pub mod Bounds
 pub mod Loops
 pub mod Countdown
+pub mod Horner

@@ -1,8 +1,5 @@
 -- Loops that count up: an invariant says that the turns that are left, from k to end − 1, lead to w.
-use mathlib.Core.Path.{◌≡◌, refl, sym, ap, ◌∙◌}
-use mathlib.Core.Bool.{Bool, true, false}
-use Prim.Native.Nat.{ℕ, zero, suc, ◌+◌, ◌-◌, ◌<◌, ◌≤◌}
-use native.Mathlib.Omega.{arith}
+use Rattle.std.proofs.Common.{◌≡◌, refl, sym, ap, ◌∙◌, Bool, true, false, ℕ, zero, suc, ◌+◌, ◌-◌, ◌<◌, ◌≤◌, arith}
 use Rattle.floats.specs.Loops.{Turn, count_up}
 
 module _ {S : Type 0} (turn : ℕ → S → Turn S) where

@@ -1,17 +1,15 @@
 -- `round` keeps the order of signed fractions, and a sum keeps it in its first operand.
-use mathlib.Core.Path.{◌≡◌, refl, sym, ap, ◌∙◌, subst}
-use mathlib.Core.Logic.{inl, inr}
-use Prim.Native.Nat.{ℕ, suc, ◌+◌, ◌-◌, ◌*◌, ◌^◌, ◌≤◌, ◌<◌}
-use native.Mathlib.Nat.{zero-mul, mul_comm, mul_assoc, mul-pos, mul-le-mul_right, eq_of_mul-eq-mul_right}
-use native.Mathlib.Omega.{arith}
-use mathlib.Core.Bool.{Bool, true, false, not, ◌&&◌, beq, cond}
-use lib.Dec.{T, ltb, ltb→lt, nltb→le}
-use lib.Pow.{pow_pos}
-use lib.Ieee.{Float, nan, inf, fin, Format, prec, emax, low, up, down, round, sum, add, le}
-use lib.Ieee.Fits.{down_pos}
-use lib.Ieee.Exact.{HasValue, round_exact}
-use lib.Ieee.Order.{round_mono}
-use lib.Ieee.Scale.{grid, overflow, finite}
+use Rattle.std.proofs.Common.{◌≡◌, refl, sym, ap, ◌∙◌, subst, inl, inr, ℕ, suc, ◌+◌, ◌-◌, ◌*◌, ◌^◌, ◌≤◌, ◌<◌, zero-mul}
+use Rattle.std.proofs.Common.{mul_comm, mul_assoc, mul-pos, mul-le-mul_right, arith, Bool, true, false, not, ◌&&◌, cond}
+use Rattle.std.proofs.Common.{T, ltb, ltb→lt, nltb→le, pow_pos, Float}
+use Rattle.std.specs.Float.{nan, inf, fin, Format}
+use Rattle.std.specs.Float.Ieee.{prec, emax, low, up, down, round, sum, add, le}
+use Rattle.std.specs.Float.Ieee.Exact.{HasValue, round_exact}
+use Rattle.std.proofs.Math.Nat.{eq_of_mul-eq-mul_right}
+use Rattle.std.specs.Float.Ieee.Fits.{down_pos}
+use Rattle.std.specs.Float.Ieee.Order.{round_mono}
+use Rattle.std.specs.Float.Ieee.Scale.{grid, overflow, finite}
+use Rattle.std.proofs.Math.Bool.{beq}
 use Rattle.floats.proofs.Tests.{lt_or_ge}
 use Rattle.floats.specs.Facts.{SignedLe}
 use Rattle.floats.proofs.Values.{rescale, fin_value}

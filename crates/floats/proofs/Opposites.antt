@@ -1,9 +1,7 @@
 -- The opposite of a float, and a product's sign: a product with one opposite factor is the opposite, to the bit.
-use mathlib.Core.Path.{◌≡◌, refl, sym, ap, ◌∙◌}
-use Prim.Native.Nat.{◌*◌}
-use mathlib.Core.Bool.{Bool, true, false, not, cond}
-use lib.Dec.{eqb}
-use lib.Ieee.{Float, nan, inf, fin, Format, up, down, neg, mul, round, unlike}
+use Rattle.std.proofs.Common.{◌≡◌, refl, sym, ap, ◌∙◌, ◌*◌, Bool, true, false, not, cond, eqb, Float}
+use Rattle.std.specs.Float.{nan, inf, fin, Format}
+use Rattle.std.specs.Float.Ieee.{up, down, neg, mul, round, unlike}
 use Rattle.floats.proofs.Rounding.{round_neg}
 
 -- ---- the sign of a product

@@ -1,16 +1,15 @@
 -- The whole part and the fraction of a value of size 1 or more: both are exact, and their sum is the value.
-use mathlib.Core.Path.{◌≡◌, refl, sym, ap, ◌∙◌, subst}
-use mathlib.Core.Logic.{inl, inr}
-use Prim.Native.Nat.{ℕ, ◌+◌, ◌-◌, ◌*◌, ◌/◌, ◌%◌, ◌^◌, ◌≤◌, ◌<◌}
-use native.Mathlib.Nat.{le_trans, le_of_eq, le_of_lt, lt_of_le_of_lt, zero-lt-suc, mul-one, one-mul, mul_assoc, mul-pos, eq_of_mul-eq-mul_right, sub-add_cancel, div-add-mod', div-mul-le_self, le-div_iff_mul-le, mod-eq-sub-div-mul, mod-le, mul-mod_left, mul-div_cancel, add-zero, sub-zero}
-use native.Mathlib.Omega.{arith}
-use mathlib.Core.Bool.{Bool, true, false, not, ◌&&◌, cond}
-use lib.Dec.{T, ltb, ltb→lt, lt→ltb, nltb→le}
-use lib.Pow.{pow-add, pow_pos}
-use lib.Ieee.{Float, Format, prec, low, round, sum, add, sub, fits, of_int}
-use lib.Ieee.Exact.{HasValue, round_exact}
-use lib.Ieee.Scale.{overflow}
-use lib.Arith.{mod-mul}
+use Rattle.std.proofs.Common.{◌≡◌, refl, sym, ap, ◌∙◌, subst, inl, inr, ℕ, ◌+◌, ◌-◌, ◌*◌, ◌/◌, ◌%◌, ◌^◌, ◌≤◌, ◌<◌}
+use Rattle.std.proofs.Common.{le_trans, le_of_eq, le_of_lt, lt_of_le_of_lt, zero-lt-suc, mul-one, one-mul, mul_assoc}
+use Rattle.std.proofs.Common.{mul-pos, sub-add_cancel, div-add-mod', div-mul-le_self, le-div_iff_mul-le, mul-div_cancel}
+use Rattle.std.proofs.Common.{add-zero, arith, Bool, true, false, not, ◌&&◌, cond, T, ltb, ltb→lt, lt→ltb, nltb→le}
+use Rattle.std.proofs.Common.{pow-add, pow_pos, Float}
+use Rattle.std.specs.Float.{Format}
+use Rattle.std.specs.Float.Ieee.{prec, low, round, sum, add, sub, fits, of_int}
+use Rattle.std.specs.Float.Ieee.Exact.{HasValue, round_exact}
+use Rattle.std.proofs.Math.Nat.{eq_of_mul-eq-mul_right, mod-eq-sub-div-mul, mod-le, mul-mod_left, sub-zero}
+use Rattle.std.specs.Float.Ieee.Scale.{overflow}
+use Rattle.std.proofs.Math.Arith.{mod-mul}
 use Rattle.floats.specs.Facts.{signed_int}
 use Rattle.floats.proofs.Booleans.{same_test}
 use Rattle.floats.proofs.Tests.{lt_or_ge}

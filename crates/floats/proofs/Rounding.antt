@@ -1,17 +1,17 @@
 -- What a format holds, in units of its smallest value, and what `round` gives: a value that the format holds stays, and none is crossed.
-use mathlib.Core.Path.{◌≡◌, refl, sym, ap, ◌∙◌, subst}
-use mathlib.Core.Logic.{inl, inr}
-use Prim.Native.Nat.{ℕ, zero, suc, ◌+◌, ◌-◌, ◌*◌, ◌%◌, ◌^◌, ◌≤◌, ◌<◌}
-use native.Mathlib.Nat.{le_trans, le_of_suc-le-suc, le_of_eq, le_of_lt, lt_of_lt_of_le, lt_irrefl, not-le_of_lt, lt_of_not-le, mul-one, one-mul, zero-mul, mul_comm, mul_assoc, mul_right_comm, mul-le-mul_right, mul-lt-mul_of_pos_right, le_of_mul-le-mul_right, lt_of_mul-lt-mul_right, sub-add_cancel}
-use mathlib.Core.Bool.{Bool, true, false, not, ◌&&◌, cond}
-use lib.IntN.{ℤ, pos, negsuc}
-use lib.Dec.{T, leb, ltb, eqb, leb→le, ltb→lt}
-use lib.Pow.{pow-add, pow_pos, pow-lt}
-use lib.Ieee.{Float, nan, inf, fin, Format, prec, emax, low, up, down, odd, units, round, neg, le, fits}
-use lib.Ieee.Fits.{round-fits, round_is, and_l, and_r, neg-fits}
-use lib.Ieee.Exact.{HasValue, units_val, round_exact}
-use lib.Ieee.Order.{drop, kept, round_mono}
-use lib.Ieee.Scale.{grid, overflow, finite}
+use Rattle.std.proofs.Common.{◌≡◌, refl, sym, ap, ◌∙◌, subst, inl, inr, ℕ, zero, suc, ◌+◌, ◌-◌, ◌*◌, ◌%◌, ◌^◌, ◌≤◌, ◌<◌}
+use Rattle.std.proofs.Common.{le_trans, le_of_suc-le-suc, le_of_eq, le_of_lt, lt_of_lt_of_le, lt_irrefl, not-le_of_lt}
+use Rattle.std.proofs.Common.{lt_of_not-le, mul-one, one-mul, zero-mul, mul_comm, mul_assoc, mul_right_comm}
+use Rattle.std.proofs.Common.{mul-le-mul_right, mul-lt-mul_of_pos_right, le_of_mul-le-mul_right, lt_of_mul-lt-mul_right}
+use Rattle.std.proofs.Common.{sub-add_cancel, Bool, true, false, not, ◌&&◌, cond, ℤ, pos, negsuc, T, leb, ltb, eqb}
+use Rattle.std.proofs.Common.{leb→le, ltb→lt, pow-add, pow_pos, Float}
+use Rattle.std.specs.Float.{nan, inf, fin, Format}
+use Rattle.std.specs.Float.Ieee.{prec, emax, low, up, down, odd, units, round, neg, le, fits}
+use Rattle.std.specs.Float.Ieee.Exact.{HasValue, units_val, round_exact}
+use Rattle.std.specs.Float.Ieee.Fits.{round-fits, round_is, and_l, and_r, neg-fits}
+use Rattle.std.specs.Float.Ieee.Order.{drop, kept, round_mono}
+use Rattle.std.specs.Float.Ieee.Scale.{grid, overflow, finite}
+use Rattle.std.proofs.Math.Pow.{pow-lt}
 use Rattle.floats.specs.Facts.{Grid}
 use Rattle.floats.proofs.Tests.{lt_or_ge}
 use Rattle.floats.proofs.Values.{value_unique, value_finite, cross, neg_value}

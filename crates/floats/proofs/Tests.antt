@@ -1,11 +1,10 @@
 -- Tests of naturals, and of fractions over one denominator: they do not turn on the denominator.
-use mathlib.Core.Path.{◌≡◌, sym, ap, ◌∙◌, subst}
-use mathlib.Core.Logic.{◌⊎◌, inl, inr}
-use Prim.Native.Nat.{ℕ, ◌+◌, ◌-◌, ◌*◌, ◌≤◌, ◌<◌}
-use native.Mathlib.Nat.{zero-lt-suc, le_of_eq, le_of_lt, mul_comm, mul_assoc, mul_right_comm, add-mul, mul-sub, mul-lt-mul_of_pos_right, lt_of_mul-lt-mul_right, eq_of_mul-eq-mul_right}
-use mathlib.Core.Bool.{Bool, true, false, not, ◌&&◌, ◌||◌}
-use lib.Dec.{T, ltb, eqb, ltb→lt, lt→ltb, nltb→le, eqb→eq}
-use lib.Ieee.Fits.{eq→eqb, and_l}
+use Rattle.std.proofs.Common.{◌≡◌, sym, ap, ◌∙◌, subst, ◌⊎◌, inl, inr, ℕ, ◌+◌, ◌-◌, ◌*◌, ◌≤◌, ◌<◌, zero-lt-suc}
+use Rattle.std.proofs.Common.{le_of_eq, le_of_lt, mul_comm, mul_assoc, mul_right_comm, add-mul, mul-lt-mul_of_pos_right}
+use Rattle.std.proofs.Common.{lt_of_mul-lt-mul_right, Bool, true, false, not, ◌&&◌, ◌||◌, T, ltb, eqb, ltb→lt, lt→ltb}
+use Rattle.std.proofs.Common.{nltb→le, eqb→eq}
+use Rattle.std.proofs.Math.Nat.{mul-sub, eq_of_mul-eq-mul_right}
+use Rattle.std.specs.Float.Ieee.Fits.{eq→eqb, and_l}
 use Rattle.floats.proofs.Booleans.{same_test, or_split}
 
 pub one : 0 < 1

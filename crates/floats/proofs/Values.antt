@@ -1,17 +1,17 @@
 -- A finite float is a sign and a fraction: `HasValue x s a c` says that x has the sign s and the size a / c.
-use mathlib.Core.Path.{◌≡◌, refl, sym, ap, ◌∙◌}
-use Prim.Native.Nat.{ℕ, zero, suc, ◌+◌, ◌-◌, ◌*◌, ◌/◌, ◌^◌, ◌≤◌, ◌<◌, min}
-use native.Mathlib.Nat.{zero-mul, lt_irrefl, mul_comm, mul_assoc, mul_right_comm, eq_of_mul-eq-mul_right}
-use mathlib.Core.Bool.{Bool, true, false, not, cond}
-use lib.IntN.{ℤ, pos, neg_ℤ}
-use lib.Dec.{T}
-use lib.Ieee.{Float, nan, inf, fin, Format, prec, low, up, down, size, neg, fits, is_nan, of_bits, to_bits, top, hid, to_signed, to_unsigned, of_int}
-use lib.Ieee.Back.{round_whole}
-use lib.Ieee.Fits.{down_pos}
-use lib.Ieee.Exact.{HasValue}
-use lib.Ieee.Nearest.{div_same}
-use lib.Ieee.Scale.{finite}
-use lib.Ieee.Bits.{of_bits-to_bits}
+use Rattle.std.proofs.Common.{◌≡◌, refl, sym, ap, ◌∙◌, ℕ, zero, suc, ◌+◌, ◌-◌, ◌*◌, ◌/◌, ◌^◌, ◌≤◌, ◌<◌, min, zero-mul}
+use Rattle.std.proofs.Common.{lt_irrefl, mul_comm, mul_assoc, mul_right_comm, Bool, true, false, not, cond, ℤ, pos}
+use Rattle.std.proofs.Common.{neg_ℤ, T, Float}
+use Rattle.std.specs.Float.{nan, inf, fin, Format}
+use Rattle.std.specs.Float.Ieee.{prec, low, up, down, size, neg, fits, is_nan, of_bits, to_bits, top, hid, to_signed}
+use Rattle.std.specs.Float.Ieee.{to_unsigned, of_int}
+use Rattle.std.specs.Float.Ieee.Exact.{HasValue}
+use Rattle.std.proofs.Math.Nat.{eq_of_mul-eq-mul_right}
+use Rattle.std.specs.Float.Ieee.Back.{round_whole}
+use Rattle.std.specs.Float.Ieee.Bits.{of_bits-to_bits}
+use Rattle.std.specs.Float.Ieee.Fits.{down_pos}
+use Rattle.std.specs.Float.Ieee.Nearest.{div_same}
+use Rattle.std.specs.Float.Ieee.Scale.{finite}
 use Rattle.floats.specs.Facts.{signed_int}
 
 -- a value's pattern turns on its sign and its size in units alone

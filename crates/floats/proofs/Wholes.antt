@@ -1,15 +1,15 @@
 -- Whole numbers up to 2 ^ prec in size as floats: sums, differences, products and comparisons are those of the integers.
-use mathlib.Core.Path.{◌≡◌, refl, sym, ap, ◌∙◌}
-use Prim.Native.Nat.{ℕ, zero, suc, ◌+◌, ◌-◌, ◌*◌, ◌^◌, ◌≤◌, ◌<◌}
-use native.Mathlib.Nat.{le_trans, zero-lt-suc, mul-one, zero-mul, add-zero, sub-zero}
-use native.Mathlib.Omega.{arith}
-use mathlib.Core.Bool.{Bool, true, false, not, ◌&&◌, ◌||◌, cond}
-use lib.IntN.{ℤ, pos, negsuc, nat_abs, sub_ℕ, ◌+ℤ◌, ◌-ℤ◌}
-use lib.Dec.{T, leb, ltb, eqb, leb→le, le→leb, ltb→lt, lt→ltb, nltb→le}
-use lib.Ieee.{Float, fin, Format, prec, round, sum, add, sub, lt, le, fits, of_int, unlike, mul}
-use lib.Ieee.Back.{round_whole}
-use lib.Ieee.Exact.{HasValue}
-use lib.Ieee.Bits.{is_true}
+use Rattle.std.proofs.Common.{◌≡◌, refl, sym, ap, ◌∙◌, ℕ, zero, suc, ◌+◌, ◌-◌, ◌*◌, ◌^◌, ◌≤◌, ◌<◌, le_trans}
+use Rattle.std.proofs.Common.{zero-lt-suc, mul-one, zero-mul, add-zero, arith, Bool, true, false, not, ◌&&◌, ◌||◌, cond}
+use Rattle.std.proofs.Common.{ℤ, pos, negsuc, nat_abs, ◌+ℤ◌, ◌-ℤ◌, T, leb, ltb, eqb, leb→le, le→leb, ltb→lt, lt→ltb}
+use Rattle.std.proofs.Common.{nltb→le, Float}
+use Rattle.std.specs.Float.{fin, Format}
+use Rattle.std.specs.Float.Ieee.{prec, round, sum, add, sub, lt, le, fits, of_int, unlike, mul}
+use Rattle.std.specs.Float.Ieee.Exact.{HasValue}
+use Rattle.std.proofs.Math.Nat.{sub-zero}
+use Rattle.std.specs.Float.Ieee.Back.{round_whole}
+use Rattle.std.specs.Float.Ieee.Bits.{is_true}
+use Rattle.std.proofs.Math.IntN.{sub_ℕ}
 use Rattle.floats.proofs.Values.{of_int_pos}
 use Rattle.floats.proofs.Arithmetic.{add_at, sub_at, sum_plus, sum_minus, mul_at}
 use Rattle.floats.proofs.Booleans.{same_test}

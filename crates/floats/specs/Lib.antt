@@ -2,3 +2,4 @@ pub mod Operations
 pub mod Loops
 pub mod Polynomials
 pub mod Facts
+pub mod Numbers

@@ -1,11 +1,7 @@
 -- What the crates above may know of gamma2 beside its contract.
-use mathlib.Core.Path.{◌≡◌, refl, ap, ◌∙◌}
-use mathlib.Core.List.{List}
-use Prim.Native.Nat.{ℕ}
-use lib.IntN.{pos}
-use lib.Dec.{lit≤}
-use lib.ListN.{get_or}
-use lib.Ieee.{Float, nan, add, sub, mul, div, neg, lt, eq, of_bits, of_int, to_signed}
+use Rattle.std.proofs.Common.{◌≡◌, refl, ap, ◌∙◌, List, ℕ, pos, lit≤, get_or, Float}
+use Rattle.std.specs.Float.{nan}
+use Rattle.std.specs.Float.Ieee.{add, sub, mul, div, neg, lt, eq, of_bits, of_int, to_signed}
 use Rattle.floats.specs.Operations.{◌⊗◌, ◌⊘◌, bits, decimal, pi}
 use Rattle.signs.specs.Signs.{absolute, infinite}
 use Rattle.truncation.specs.Truncation.{truncated, fraction}

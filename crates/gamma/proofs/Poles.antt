@@ -1,12 +1,9 @@
 -- At the poles of Γ, where gamma2 answers 1e300 (01, "Bottom rungs").
-use mathlib.Core.Path.{◌≡◌, refl, ap, ◌∙◌, subst}
-use mathlib.Core.Bool.{Bool, true, false, ◌&&◌}
-use Prim.Native.Nat.{ℕ, ◌^◌, ◌≤◌}
-use lib.IntN.{pos}
-use lib.Ieee.{Float, binary64, eq, neg, of_bits}
-use lib.Ieee.Exact.{HasValue}
-use lib.Ieee.Fits.{neg-fits, of_int-fits}
-use borrow.Author.Tests.{eq-eqb}
+use Rattle.std.proofs.Common.{◌≡◌, refl, ap, ◌∙◌, subst, Bool, true, false, ◌&&◌, ℕ, ◌^◌, ◌≤◌, pos, Float, eq-eqb}
+use Rattle.std.specs.Float.{binary64}
+use Rattle.std.specs.Float.Ieee.{eq, neg, of_bits}
+use Rattle.std.specs.Float.Ieee.Exact.{HasValue}
+use Rattle.std.specs.Float.Ieee.Fits.{neg-fits, of_int-fits}
 use Rattle.floats.specs.Operations.{whole, f0}
 use Rattle.floats.proofs.Tests.{one}
 use Rattle.floats.proofs.Values.{zero_value, neg_value, of_int_pos}

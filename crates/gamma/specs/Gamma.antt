@@ -3,7 +3,7 @@
 -- What they may know of it are the contract and the laws of proofs/Laws.antt and proofs/Poles.antt.
 pub mod Open
 pub mod Examples
-use Rattle.std.specs.Prelude.{ℕ, ◌+◌, ◌-◌, false, cond, List, [], ◌∷◌, ℤ, pos, negsuc, Float}
+use Rattle.std.specs.Prelude.{◌≡◌, ◌<◌, ◌^◌, ℕ, ◌+◌, ◌-◌, false, cond, List, [], ◌∷◌, ℤ, pos, negsuc, Float}
 use Rattle.std.specs.Float.Ieee.{lt, eq, neg, to_signed}
 use Rattle.floats.specs.Operations.{◌⊕◌, ◌⊖◌, ◌⊗◌, ◌⊘◌, whole, f0, f1, pi}
 use Rattle.signs.specs.Signs.{absolute, infinite}
@@ -20,6 +20,14 @@ last_of (negsuc n) = 0
 -- "ga *= ..; if ga.is_infinite() { break; }"
 unfoldable pub product_turn : (ℕ → Float) → ℕ → Float → Turn Float
 product_turn factor k p = (infinite (p ⊗ factor k), p ⊗ factor k)
+
+-- at each u32 a function with these results gives what `by` gives
+abbrev pub Computes : (ℕ → Float → Type 0) → (ℕ → Float) → Type 0
+Computes results by = (k : ℕ) (r : Float) → k < 2 ^ 32 → results k r → r ≡ by k
+
+-- "for k in first..=last"
+abbrev pub product : (ℕ → Float) → ℕ → ℕ → Float
+product factor first last = count_up (product_turn factor) (last + 1 - first) first (false, f1)
 
 -- "for k in 2..=m": m!, which is Γ(m + 1) (DLMF 5.4.1)
 unfoldable pub factorial : ℕ → Float

@@ -1,11 +1,8 @@
 -- log1pmx of both zeros is 0: every term is a zero, so that no turn stops and the sum stays 0.
-use mathlib.Core.Path.{◌≡◌, refl, ap, ◌∙◌}
-use mathlib.Core.Bool.{Bool, true, false}
-use Prim.Native.Nat.{ℕ, zero, suc, ◌+◌, ◌*◌, ◌≤◌, ◌<◌}
-use native.Mathlib.Nat.{le_trans, zero-mul}
-use native.Mathlib.Omega.{arith}
-use lib.Dec.{lit≤}
-use lib.Ieee.{Float, binary64, add, mul, neg, lt, fits, of_bits}
+use Rattle.std.proofs.Common.{◌≡◌, refl, ap, ◌∙◌, Bool, true, false, ℕ, zero, suc, ◌+◌, ◌*◌, ◌≤◌, ◌<◌, le_trans}
+use Rattle.std.proofs.Common.{zero-mul, arith, lit≤, Float}
+use Rattle.std.specs.Float.{binary64}
+use Rattle.std.specs.Float.Ieee.{add, mul, neg, lt, fits, of_bits}
 use Rattle.floats.specs.Operations.{◌⊕◌, ◌⊗◌, ◌⊘◌, whole, f0}
 use Rattle.floats.specs.Loops.{Turn, count_up}
 use Rattle.floats.proofs.Arithmetic.{div_at}

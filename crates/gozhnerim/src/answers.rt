@@ -1,4 +1,5 @@
-// The requests that hold nothing: the table calls, the expansion and the Maclaurin series.
+// The requests that hold nothing: the table calls, the expansion and the Maclaurin series. D and V have a name each, as
+// include/gozhnerim.h declares them.
 
 ghost use Rattle.std.specs.Prelude.{◌≡◌, length};
 ghost use Rattle.floats.specs.declared.Function.TheVariants.{D, «V»};
@@ -7,6 +8,7 @@ ghost use Rattle.expansion.specs.Expansion as expanded;
 ghost use Rattle.maclaurin.specs.Maclaurin as maclaurin;
 ghost use Rattle.gozhnerim_structs.specs.Answers.{answer_of};
 
+use floats::Function;
 use gozhnerim_structs::GozhnerimAnswer;
 
 #[unsafe(no_mangle)]
@@ -14,7 +16,7 @@ pub extern "C" fn gozhnerim_d_table(v: f64, x: f64, table: &mut [f64]) -> Gozhne
     ensures answer { result ≡ answer_of (refusal v x (length table.old)) (answer D v x (length table.old)) }
     ensures table { table.new ≡ table_after D v x table.old }
 {
-    gozhnerim_answers::d_table(v, x, table)
+    gozhnerim_answers::table(Function::D, v, x, table)
 }
 
 #[unsafe(no_mangle)]
@@ -22,7 +24,7 @@ pub extern "C" fn gozhnerim_v_table(v: f64, x: f64, table: &mut [f64]) -> Gozhne
     ensures answer { result ≡ answer_of (refusal v x (length table.old)) (answer «V» v x (length table.old)) }
     ensures table { table.new ≡ table_after «V» v x table.old }
 {
-    gozhnerim_answers::v_table(v, x, table)
+    gozhnerim_answers::table(Function::V, v, x, table)
 }
 
 #[unsafe(no_mangle)]

@@ -1,4 +1,4 @@
-// The ladder's requests.
+// The ladder's requests. D and V have a name each, as include/gozhnerim.h declares them.
 
 ghost use Rattle.std.specs.Prelude.{◌≡◌};
 ghost use Rattle.floats.specs.declared.Function.TheVariants.{D, «V»};

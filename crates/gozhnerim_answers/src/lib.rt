@@ -1,40 +1,32 @@
-// The requests that hold nothing, with an answer of C: the table calls, the expansion and the Maclaurin series. Each public
-// function answers every input.
+// The requests that hold nothing, with an answer of C: the table calls, the expansion and the Maclaurin series. Each
+// public function answers every input.
 
 #![tactic(auto)]
 
 ghost use Rattle.std.specs.Prelude.{◌≡◌, length};
-ghost use Rattle.floats.specs.declared.Function.TheVariants.{D, «V»};
 ghost use Rattle.tables.specs.Tables.{refusal, table_after, answer};
 ghost use Rattle.expansion.specs.Expansion as expanded;
 ghost use Rattle.maclaurin.specs.Maclaurin as maclaurin;
 ghost use Rattle.gozhnerim_structs.specs.Answers.{answer_of};
 
 use floats::Function;
-use gozhnerim_structs::{GozhnerimAnswer, flat};
+use gozhnerim_structs::GozhnerimAnswer;
 
-pub fn d_table(v: f64, x: f64, table: &mut [f64]) -> GozhnerimAnswer
-    ensures answer { result ≡ answer_of (refusal v x (length table.old)) (answer D v x (length table.old)) }
-    ensures table { table.new ≡ table_after D v x table.old }
+pub fn table(function: Function, v: f64, x: f64, table: &mut [f64]) -> GozhnerimAnswer
+    ensures answer { result ≡ answer_of (refusal v x (length table.old)) (answer function v x (length table.old)) }
+    ensures table { table.new ≡ table_after function v x table.old }
 {
-    flat(tables::table(Function::D, v, x, table))
-}
-
-pub fn v_table(v: f64, x: f64, table: &mut [f64]) -> GozhnerimAnswer
-    ensures answer { result ≡ answer_of (refusal v x (length table.old)) (answer «V» v x (length table.old)) }
-    ensures table { table.new ≡ table_after «V» v x table.old }
-{
-    flat(tables::table(Function::V, v, x, table))
+    GozhnerimAnswer::from(tables::table(function, v, x, table))
 }
 
 pub fn d_expansion(v: f64, x: f64) -> GozhnerimAnswer
     ensures { result ≡ answer_of (expanded.refusal v x) (expanded.answer v x) }
 {
-    flat(expansion::d_expansion(v, x))
+    GozhnerimAnswer::from(expansion::d_expansion(v, x))
 }
 
 pub fn maclaurin(a: f64, x: f64, c0: f64, c1: f64, e: f64) -> GozhnerimAnswer
     ensures { result ≡ answer_of (maclaurin.refusal a x c0 c1 e) (maclaurin.answer a x c0 c1 e) }
 {
-    flat(maclaurin::maclaurin(a, x, c0, c1, e))
+    GozhnerimAnswer::from(maclaurin::maclaurin(a, x, c0, c1, e))
 }

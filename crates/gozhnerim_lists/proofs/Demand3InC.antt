@@ -1,7 +1,5 @@
 -- DEMAND 3 IN C: the list of the ladder's turns, in C; and any state.
-use mathlib.Core.Path.{◌≡◌, ap, ◌∙◌}
-use mathlib.Core.List.{List}
-use lib.Ieee.{Float}
+use Rattle.std.proofs.Common.{◌≡◌, ap, ◌∙◌, List, Float}
 use Rattle.ladder_machine.specs.Machine.{Request, empty}
 use Rattle.ladder_machine.specs.Held.{machine_of}
 use Rattle.ladder_states.specs.declared.Ladder.{Ladder}
@@ -16,11 +14,9 @@ use Rattle.gozhnerim_lists.proofs.AnyState.{state_right_in_c}
 
 module _ (table : Request → List Float) (long : Long table) (held : GozhnerimLadder) (nothing : begun_with held ≡ empty) (cs : List Call) (numbers : Numbers cs) where
   right : ListRight table (ladder_in held) cs
-  unfolding held_in
   right = demand3.lists table long (ladder_in held) (begun_empty held nothing) cs numbers
 
   list_right_in_c : ListRightInC table held cs
-  unfolding held_in
   list_right_in_c = record {
     calls = turns_in_c held cs ∙ ap (all_in_c held) right.calls ∙ all_due table long cs numbers held (ladder_in held) empty;
     machine =

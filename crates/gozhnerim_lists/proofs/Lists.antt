@@ -1,19 +1,14 @@
 -- Lists of calls in C. The state that a call hands back is, as a ladder, the state that the ladder's request hands back; so a list of calls in C is the list of
 -- the ladder's turns, of which demand 3 speaks; and what is due to a call of the ladder is, in C, what is due there.
-use mathlib.Core.Path.{◌≡◌, refl, sym, ap, ◌∙◌}
-use mathlib.Core.Bool.{true}
-use mathlib.Core.Option.{Option, some, none}
-use mathlib.Core.List.{List, [], ◌∷◌, map}
-use borrow.Author.Tests.{ne_eqb}
-use lib.ListN.{length}
-use lib.Ieee.{Float}
+use Rattle.std.proofs.Common.{◌≡◌, refl, sym, ap, ◌∙◌, true, List, [], ◌∷◌, map, ne_eqb, length, Float}
+use Rattle.std.proofs.Math.Option.{Option, some, none}
 use Rattle.floats.specs.declared.Function.{Function}
 use Rattle.floats.specs.declared.Function.TheVariants.{D, «V»}
 use Rattle.ladder_machine.specs.Machine.{Request, Inputs, request, asked, Machine, empty, Verdict, refuses, repeats, climbs, starts_over, refused_by, effect, verdict, next, verdicts}
 use Rattle.ladder_machine.specs.Held.{counts_empty, machine_of}
 use Rattle.ladder_machine.proofs.Laws.{machine_empty, empty_machine, Accepts, accepts, refuses_count, repeats_count, climbs_count, starts_count, no_verdicts, more_verdicts}
 use Rattle.ladder_states.specs.declared.Ladder.{Ladder}
-use Rattle.ladder_states.specs.States.{state_of, held_in, empty_state}
+use Rattle.ladder_states.specs.States.{held_in, empty_state}
 use Rattle.ladder_states.proofs.Laws.{nothing_held}
 use Rattle.ladder.specs.Ladder.{Outcome, requested}
 use Rattle.ladder.proofs.Refusals.{refused_state}
@@ -36,7 +31,7 @@ same_number «V» = refl
 
 -- the machine begun with a state in C is the one begun with the ladder that it is
 begun_by_law : (o : Option Function) (held : GozhnerimLadder) → begun_by o held ≡ machine_of (held_in (ladder_by o held))
-unfolding begun_by ladder_by held_in state_of
+unfolding begun_by ladder_by
 begun_by_law none held = sym (machine_empty (held_in empty_state) nothing_held)
 begun_by_law (some function) held = refl
 

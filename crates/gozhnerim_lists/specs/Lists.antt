@@ -52,7 +52,10 @@ function_in number = cond (eqb number 1) (some D) (cond (eqb number 2) (some «V
 unfoldable pub begun_by : Option Function → GozhnerimLadder → Machine
 begun_by none s = empty
 begun_by (some function) s =
-    machine_of (record { function = function; below = not (eqb s.below_zero 0); x = s.x; f = s.f; n = s.n })
+    machine_of (record {
+      sequence = record { function = function; below = not (eqb s.below_zero 0); x = s.x; f = s.f };
+      n = s.n;
+    })
 
 abbrev pub begun_with : GozhnerimLadder → Machine
 begun_with s = begun_by (function_in s.function) s

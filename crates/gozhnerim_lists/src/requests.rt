@@ -5,7 +5,8 @@ ghost use Rattle.ladder_machine.specs.Machine.{asks};
 ghost use Rattle.gozhnerim_lists.specs.Requests.{requested_in_c};
 
 use floats::Function;
-use gozhnerim_structs::{GozhnerimLadder, GozhnerimReply, ladder_in, reply_of};
+use gozhnerim_structs::{GozhnerimLadder, GozhnerimReply, reply_of};
+use ladder_states::Ladder;
 
 // A request for D or V on the state `held`.
 pub fn request_in_c(
@@ -22,8 +23,6 @@ pub fn request_in_c(
     ensures derivatives { derivatives.new
         ≡ (requested_in_c held (asks function v x) values.old derivatives.old).derivatives }
 {
-    reply_of(
-        held,
-        ladder::request(ladder_in(held), function, v, x, values, derivatives),
-    )
+    let reply = ladder::request(Ladder::from(held), function, v, x, values, derivatives);
+    reply_of(held, reply)
 }

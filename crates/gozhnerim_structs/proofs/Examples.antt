@@ -1,15 +1,12 @@
 -- The structs field by field, in the words of include/gozhnerim.h, proved by computing them: four lists, with any
 -- numbers where none is written out, and one theorem over them.
-use mathlib.Core.Path.{◌≡◌, refl}
-use mathlib.Core.Bool.{Bool, true, false}
-use mathlib.Core.List.{List, [], ◌∷◌, map}
-use mathlib.Core.Option.{Option, some, none}
-use Prim.Native.Nat.{ℕ}
-use lib.Ieee.{Float, nan}
+use Rattle.std.proofs.Common.{◌≡◌, refl, Bool, true, false, List, [], ◌∷◌, map, ℕ, Float}
+use Rattle.std.proofs.Math.Option.{Option, some, none}
+use Rattle.std.specs.Float.{nan}
 use Rattle.floats.specs.declared.Function.{Function}
 use Rattle.floats.specs.declared.Function.TheVariants.{D, «V»}
 use Rattle.ladder_states.specs.declared.Ladder.{Ladder}
-use Rattle.ladder_states.specs.States.{state_of, empty_state}
+use Rattle.ladder_states.specs.States.{empty_state}
 use Rattle.ladder.specs.Ladder.{Given}
 use Rattle.gozhnerim_structs.specs.declared.GozhnerimAnswer.{GozhnerimAnswer}
 use Rattle.gozhnerim_structs.specs.declared.GozhnerimLadder.{GozhnerimLadder}
@@ -25,7 +22,10 @@ Holds {A} {B} f examples = map (λ (e : A × B). f e.0) examples ≡ map (λ (e 
 module _ (held : GozhnerimLadder) (n count : ℕ) (reserved : List ℕ) (x f low high value derivative : Float) where
   -- a ladder, and a state in C
   abbrev pub ladder : Function → Bool → Ladder
-  ladder function below = record { function = function; below = below; x = x; f = f; n = n; low = low; high = high }
+  ladder function below = record {
+    held = record { sequence = record { function = function; below = below; x = x; f = f }; n = n };
+    values = record { low = low; high = high };
+  }
 
   abbrev pub state : ℕ → ℕ → List ℕ → GozhnerimLadder
   state function side reserved = record {
@@ -91,5 +91,5 @@ module _ (held : GozhnerimLadder) (n count : ℕ) (reserved : List ℕ) (x f low
 
   pub examples_hold : Holds ladder_in comes_in × Holds ladder_out goes_out × Holds (reply_of held) replies
       × Holds answered answers
-  unfolding pair_or_nan answer_of function_of ladder_by ladder_in number_of ladder_out handed_back count_of reply_of state_of
+  unfolding pair_or_nan answer_of function_of ladder_by ladder_in number_of ladder_out handed_back count_of reply_of
   examples_hold = (refl, refl, refl, refl)

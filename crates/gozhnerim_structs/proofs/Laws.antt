@@ -1,15 +1,38 @@
 -- A ladder that goes out to C and comes in again.
-use mathlib.Core.Path.{◌≡◌, refl, sym}
-use mathlib.Core.Bool.{Bool, true, false, not, cond}
-use mathlib.Core.Option.{some}
-use Prim.Native.Nat.{ℕ}
-use lib.Dec.{eqb}
+use Rattle.std.proofs.Common.{◌≡◌, refl, sym, Bool, true, false, not, cond, ℕ, eqb, ne_eqb, ◌+◌}
+use Rattle.std.proofs.Math.Option.{some, none}
+use denote.Enum.Declared.{tag_of}
+use mir.Val.{bool_byte}
+use Rattle.floats.specs.Numbers.{function_number}
+use Rattle.floats.specs.contracts.Function.{the_type}
 use Rattle.floats.specs.declared.Function.{Function}
 use Rattle.floats.specs.declared.Function.TheVariants.{D, «V»}
 use Rattle.ladder_states.specs.declared.Ladder.{Ladder}
-use Rattle.ladder_states.specs.States.{state_of}
 use Rattle.gozhnerim_structs.specs.declared.GozhnerimLadder.{GozhnerimLadder}
 use Rattle.gozhnerim_structs.specs.Ladders.{function_of, ladder_by, ladder_in, number_of, ladder_out, handed_back}
+
+-- ---- a function by its number
+
+pub number_told : (function : Function) → tag_of the_type function + 1 ≡ number_of function
+unfolding number_of
+number_told D = refl
+number_told «V» = refl
+
+pub by_number : (function : Function) (n : ℕ) → function_number function ≡ n → function_of n ≡ some function
+unfolding function_of
+by_number D n e = rw (← e)
+by_number «V» n e = rw (← e)
+
+pub by_no_number : (n : ℕ) → (n ≡ 1 → ⊥) → (n ≡ 2 → ⊥) → function_of n ≡ none
+unfolding function_of
+by_no_number n a b = rw (ne_eqb n 1 a, ne_eqb n 2 b)
+
+-- a `bool` as a number
+pub side_told : (b : Bool) → bool_byte b ≡ cond b 1 0
+side_told true = refl
+side_told false = refl
+
+-- ---- out, and in again
 
 by_function : (function : Function) → function_of (number_of function) ≡ some function
 unfolding function_of number_of
@@ -22,8 +45,8 @@ by_side false = refl
 
 -- it comes in as itself
 pub in_out : (s : Ladder) → ladder_in (ladder_out s) ≡ s
-unfolding ladder_in ladder_by ladder_out state_of
-in_out s = rw (by_function s.function, by_side s.below) refl
+unfolding ladder_in ladder_by ladder_out
+in_out s = rw (by_function s.held.sequence.function, by_side s.held.sequence.below) refl
 
 by_refusal : (held : GozhnerimLadder) (next : Ladder) (b : Bool) → (b ≡ false → next ≡ ladder_in held)
     → ladder_in (cond b (ladder_out next) held) ≡ next

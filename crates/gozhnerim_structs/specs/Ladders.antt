@@ -3,7 +3,7 @@ use Rattle.std.specs.Prelude.{[], ◌∷◌, ℕ, not, cond, eqb}
 use Rattle.std.proofs.Math.Option.{Option, some, none}
 use Rattle.floats.specs.declared.Function.{Function}
 use Rattle.floats.specs.declared.Function.TheVariants.{D, «V»}
-use Rattle.rungs.specs.declared.Sequence.{Sequence}
+use Rattle.order.specs.declared.Sequence.{Sequence}
 use Rattle.ladder_states.specs.declared.Ladder.{Ladder}
 use Rattle.ladder_states.specs.States.{state_of, empty_state}
 use Rattle.ladder.specs.Ladder.{Given}
@@ -34,16 +34,18 @@ number_of D = 1
 number_of «V» = 2
 
 unfoldable pub ladder_out : Ladder → GozhnerimLadder
-ladder_out s = record {
-  function = number_of s.function;
-  below_zero = cond s.below 1 0;
-  n = s.n;
-  reserved = 0 ∷ 0 ∷ 0 ∷ [];
-  x = s.x;
-  f = s.f;
-  value_below = s.low;
-  value_top = s.high;
-}
+ladder_out s =
+    let r = s.held.sequence in
+    record {
+      function = number_of r.function;
+      below_zero = cond r.below 1 0;
+      n = s.held.n;
+      reserved = 0 ∷ 0 ∷ 0 ∷ [];
+      x = r.x;
+      f = r.f;
+      value_below = s.values.low;
+      value_top = s.values.high;
+    }
 
 -- ---- the reply: on a refusal the count is 0, the two numbers are NaN and the state is the one that came, every field
 

@@ -5,22 +5,23 @@ ghost use Rattle.answer.specs.Answer.{refusal_of, pair_of};
 ghost use Rattle.gozhnerim_structs.specs.Answers.{answer_of};
 
 use crate::GozhnerimAnswer;
-use answer::Answer;
+use answer::{Answer, Pair};
 
-// An answer as the struct.
-pub fn flat(a: Answer) -> GozhnerimAnswer
-    ensures { result ≡ answer_of (refusal_of a) (pair_of a) }
-{
-    match a {
-        Answer::Pair(value, derivative) => GozhnerimAnswer {
-            refusal: 0,
-            value: value,
-            derivative: derivative,
-        },
-        Answer::Refused(number) => GozhnerimAnswer {
-            refusal: number as u32,
-            value: 0.0 / 0.0,
-            derivative: 0.0 / 0.0,
-        },
+impl From<Answer> for GozhnerimAnswer {
+    ghost from_gives = { λ a answer. answer ≡ answer_of (refusal_of a) (pair_of a) };
+
+    fn from(a: Answer) -> GozhnerimAnswer {
+        match a {
+            Ok(Pair { value, derivative }) => GozhnerimAnswer {
+                refusal: 0,
+                value,
+                derivative,
+            },
+            Err(refusal) => GozhnerimAnswer {
+                refusal: u32::from(refusal),
+                value: f64::NAN,
+                derivative: f64::NAN,
+            },
+        }
     }
 }

@@ -1,102 +1,74 @@
 // A ladder's state and reply as structs of C.
 
 ghost use Rattle.std.specs.Prelude.{◌≡◌};
-ghost use Rattle.std.proofs.Math.Option.{some};
-ghost use Rattle.ladder.specs.Ladder.{written_of, given_by};
-ghost use Rattle.gozhnerim_structs.specs.Ladders.{ladder_by, ladder_in, number_of, ladder_out};
-ghost use Rattle.gozhnerim_structs.specs.Ladders.{handed_back, count_of, reply_of};
+ghost use Rattle.ladder.specs.Ladder.{given_by};
+ghost use Rattle.gozhnerim_structs.specs.Ladders.{ladder_in, ladder_out, reply_of};
 
-use crate::answers::flat;
 use crate::{GozhnerimLadder, GozhnerimReply};
 use floats::Function;
-use ladder::{Reply, Written};
-use ladder_states::{Ladder, state_of};
-use rungs::Sequence;
+use ladder::Reply;
+use ladder_states::Ladder;
+use order::{Adjacent, Sequence};
 
-// The ladder of a state that holds a function.
-fn holding(s: GozhnerimLadder, function: Function) -> Ladder
-    ensures { result ≡ ladder_by (some function) s }
-{
-    let sequence = Sequence {
-        function: function,
-        below: s.below_zero != 0,
-        x: s.x,
-        f: s.f,
-    };
-    state_of(sequence, s.n, s.value_below, s.value_top)
-}
+// Of any state: with a function that is neither D nor V the ladder holds nothing.
+impl From<GozhnerimLadder> for Ladder {
+    ghost from_gives = { λ state ladder. ladder ≡ ladder_in state };
 
-// The ladder of any state.
-pub fn ladder_in(s: GozhnerimLadder) -> Ladder
-    ensures { result ≡ ladder_in s }
-{
-    if s.function == 1 {
-        return holding(s, Function::D);
-    }
-    if s.function == 2 {
-        return holding(s, Function::V);
-    }
-    ladder_states::empty()
-}
-
-fn number_of(function: Function) -> u32
-    ensures { result ≡ number_of function }
-{
-    match function {
-        Function::D => 1,
-        Function::V => 2,
+    fn from(state: GozhnerimLadder) -> Ladder {
+        let Ok(function) = Function::try_from(state.function) else {
+            return Ladder::empty();
+        };
+        let sequence = Sequence {
+            function,
+            below: state.below_zero != 0,
+            x: state.x,
+            f: state.f,
+        };
+        let values = Adjacent {
+            low: state.value_below,
+            high: state.value_top,
+        };
+        Ladder::new(sequence, state.n, values)
     }
 }
 
-// The state of a ladder.
-fn ladder_out(s: Ladder) -> GozhnerimLadder
-    ensures { result ≡ ladder_out s }
-{
-    let function = s.function;
-    GozhnerimLadder {
-        function: number_of(function),
-        below_zero: if s.below { 1 } else { 0 },
-        n: s.n,
-        reserved: [0, 0, 0],
-        x: s.x,
-        f: s.f,
-        value_below: s.low,
-        value_top: s.high,
+impl From<Ladder> for GozhnerimLadder {
+    ghost from_gives = { λ ladder state. state ≡ ladder_out ladder };
+
+    fn from(ladder: Ladder) -> GozhnerimLadder {
+        let sequence = ladder.held.sequence;
+        GozhnerimLadder {
+            function: sequence.function as u32,
+            below_zero: u32::from(sequence.below),
+            n: ladder.held.n,
+            reserved: [0; 3],
+            x: sequence.x,
+            f: sequence.f,
+            value_below: ladder.values.low,
+            value_top: ladder.values.high,
+        }
     }
 }
 
-fn count_of(written: Written) -> u32
-    ensures { result ≡ count_of (written_of written) }
+// The reply to a request on the state `held`: a refusal hands it back as it came, every field. No `From`, since it
+// takes two values.
+pub fn reply_of(held: GozhnerimLadder, reply: Reply) -> GozhnerimReply
+    ensures { result ≡ reply_of held (given_by reply) }
 {
-    match written {
-        Written::Count(count) => count,
-        Written::Nothing => 0,
-    }
-}
-
-// The state handed back: the ladder's next one, or with a refusal the one that came.
-fn handed_back(held: GozhnerimLadder, refusal: u32, next: Ladder) -> GozhnerimLadder
-    ensures { result ≡ handed_back held refusal next }
-{
-    if refusal == 0 {
-        return ladder_out(next);
-    }
-    held
-}
-
-// The reply to a request on the state `held`.
-pub fn reply_of(held: GozhnerimLadder, r: Reply) -> GozhnerimReply
-    ensures { result ≡ reply_of held (given_by r) }
-{
-    let state = r.state;
-    let answer = r.answer;
-    let written = r.written;
-    let numbers = flat(answer);
-    GozhnerimReply {
-        ladder: handed_back(held, numbers.refusal, state),
-        refusal: numbers.refusal,
-        written: count_of(written),
-        value: numbers.value,
-        derivative: numbers.derivative,
+    match reply.answer {
+        Ok(answered) => GozhnerimReply {
+            ladder: GozhnerimLadder::from(reply.state),
+            refusal: 0,
+            written: answered.written,
+            value: answered.pair.value,
+            derivative: answered.pair.derivative,
+        },
+        Err(refusal) => GozhnerimReply {
+            ladder: held,
+            refusal: u32::from(refusal),
+            written: 0,
+            value: f64::NAN,
+            derivative: f64::NAN,
+        },
     }
 }

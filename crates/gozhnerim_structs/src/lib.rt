@@ -1,13 +1,13 @@
-// Answer, state and reply as structs of the C interface, as include/gozhnerim.h declares them, and what goes into them and
-// comes out of them. Each public function answers every input.
+// Answer, state and reply as structs of the C interface, as include/gozhnerim.h declares them, and what goes into them
+// and comes out of them. Refusal, function and side are numbers, as in the header. Each public function answers every
+// input.
 
 #![tactic(auto)]
 
 mod answers;
 mod ladders;
 
-pub use answers::flat;
-pub use ladders::{ladder_in, reply_of};
+pub use ladders::reply_of;
 
 // Refusal 0: answered. On a refusal the two numbers are NaN.
 #[repr(C)]

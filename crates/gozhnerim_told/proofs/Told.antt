@@ -1,19 +1,15 @@
 -- What the C interface tells: an order by the outcomes of its two tests, a reply by what the machine says.
-use mathlib.Core.Path.{◌≡◌, refl, sym, ap, ◌∙◌}
-use mathlib.Core.List.{List}
-use mathlib.Core.Bool.{Bool, true, false, ◌||◌, true≢false}
-use Prim.Native.Nat.{ℕ, ◌+◌, ◌-◌, ◌*◌, ◌≤◌}
-use native.Mathlib.Nat.{le_of_eq}
-use native.Mathlib.Omega.{arith}
-use borrow.Author.Tests.{ltb-true, ltb-false, ne_eqb, lt-ltb, le-ltb}
-use lib.Dec.{T, ltb}
-use lib.ListN.{length, replicate, length-replicate}
-use lib.Ieee.{Float, binary64, is_nan, fits}
+use Rattle.std.proofs.Common.{◌≡◌, refl, sym, ap, ◌∙◌, List, Bool, true, false, cond, ◌||◌, true≢false, ℕ, ◌+◌, ◌-◌}
+use Rattle.std.proofs.Common.{◌*◌, ◌≤◌, le_of_eq, arith, ltb-true, ltb-false, ne_eqb, lt-ltb, le-ltb, T, ltb, length}
+use Rattle.std.proofs.Common.{replicate, Float}
+use Rattle.std.specs.Float.{binary64}
+use Rattle.std.specs.Float.Ieee.{is_nan, fits, of_bits}
+use Rattle.std.proofs.Math.ListN.{length-replicate}
 use Rattle.floats.specs.Operations.{f0}
 use Rattle.order.specs.Order.{too_large, top_rung, num}
 use Rattle.order.proofs.Facts.{split_facts}
 use Rattle.table_refusals.specs.Refusals.{refusal_by}
-use Rattle.table_refusals.proofs.Laws.{refused_order_law, refused_size, of_numbers}
+use Rattle.table_refusals.proofs.Laws.{refused_order_law, refused_size, not_refused as accepted_law, of_numbers}
 use Rattle.tables.proofs.Calls.{refusal_short}
 use Rattle.ladder_machine.specs.Machine.{Request, request, too_short, refusal, empty, Verdict, refuses, repeats, climbs, starts_over}
 use Rattle.ladder_machine.proofs.Laws.{accepted}
@@ -30,6 +26,20 @@ use Rattle.gozhnerim_lists.proofs.Lists.{begun_empty}
 use Rattle.gozhnerim_lists.proofs.AnyState.{means, state_right_in_c}
 
 -- ---- an order, by the outcomes of its two tests
+
+zero_number : is_nan f0 ≡ false
+unfolding is_nan of_bits
+zero_number = refl
+
+-- with an argument that is a number and a table that is long enough, the order alone is tested
+pub by_order : (v : Float) → refusal_by v f0 false ≡ order_refusal v
+unfolding order_refusal
+by_order v = go (is_nan v) (too_large v) refl refl
+  where
+    go : (a b : Bool) → is_nan v ≡ a → too_large v ≡ b → refusal_by v f0 false ≡ cond (is_nan v) 1 (cond (too_large v) 2 0)
+    go true b ea eb = rw ea (sym (refused_order_law v f0 false ea))
+    go false true ea eb = rw (ea, eb) (sym (refused_size v f0 false ea zero_number eb))
+    go false false ea eb = rw (ea, eb) (sym (accepted_law v f0 false ea zero_number eb refl))
 
 -- what it is refused for; `short` says what is too short for an order that is taken
 module _ (v x : Float) (short : GozhnerimOrder → Bool) (number : is_nan x ≡ false) where

@@ -11,9 +11,9 @@ ghost use Rattle.gozhnerim_told.specs.Told.{OrdersTold, CasesTold};
 pub use cases::case_of;
 pub use orders::order_of;
 
-// What a table call or a ladder needs for an order: the top rung is n; below_zero is 1 where v < 0; derivative k stands in
-// slot num + k of a table; table_slots is 2 num, value_slots n + 1, derivative_slots n; rung k has the order f + k, or f - k
-// where v < 0. On a refusal all other numbers are 0 and f is NaN.
+// What a table call or a ladder needs for an order: the top rung is n; below_zero is 1 where v < 0; derivative k stands
+// in slot num + k of a table; table_slots is 2 num, value_slots n + 1, derivative_slots n; rung k has the order f + k,
+// or f - k where v < 0. On a refusal all other numbers are 0 and f is NaN. A struct of C: refusal and side are numbers.
 #[repr(C)]
 #[derive(Clone, Copy)]
 pub struct GozhnerimOrder {

@@ -1,43 +1,45 @@
 // What an order needs, as a struct of C.
 
 ghost use Rattle.std.specs.Prelude.{◌≡◌};
+ghost use Rattle.answer.specs.Answer.{number};
 ghost use Rattle.gozhnerim_told.specs.Orders.{refused_order, accepted_order, order_in};
 
 use crate::GozhnerimOrder;
-use signs::is_nan;
+use answer::Refusal;
+use order::Order;
 
-fn refused(number: u32) -> GozhnerimOrder
-    ensures { result ≡ refused_order number }
-{
-    GozhnerimOrder {
-        refusal: number,
-        below_zero: 0,
-        n: 0,
-        num: 0,
-        table_slots: 0,
-        value_slots: 0,
-        derivative_slots: 0,
-        f: 0.0 / 0.0,
+impl From<Refusal> for GozhnerimOrder {
+    ghost from_gives = { λ refusal order. order ≡ refused_order (number refusal) };
+
+    fn from(refusal: Refusal) -> GozhnerimOrder {
+        GozhnerimOrder {
+            refusal: u32::from(refusal),
+            below_zero: 0,
+            n: 0,
+            num: 0,
+            table_slots: 0,
+            value_slots: 0,
+            derivative_slots: 0,
+            f: f64::NAN,
+        }
     }
 }
 
 fn accepted(v: f64) -> GozhnerimOrder
     ensures { result ≡ accepted_order v }
 {
-    let o = order::split(v);
+    let Order { below, f, n, .. } = order::split(v);
     let num = order::num(v);
-    let table_slots = 2 * num as usize;
-    let derivative_slots = o.n as usize;
-    let value_slots = derivative_slots + 1;
+    let top = n as usize;
     GozhnerimOrder {
         refusal: 0,
-        below_zero: if o.below { 1 } else { 0 },
-        n: o.n,
-        num: num,
-        table_slots: table_slots,
-        value_slots: value_slots,
-        derivative_slots: derivative_slots,
-        f: o.f,
+        below_zero: u32::from(below),
+        n,
+        num,
+        table_slots: 2 * num as usize,
+        value_slots: top + 1,
+        derivative_slots: top,
+        f,
     }
 }
 
@@ -45,11 +47,9 @@ fn accepted(v: f64) -> GozhnerimOrder
 pub fn order_of(v: f64) -> GozhnerimOrder
     ensures { result ≡ order_in v }
 {
-    if is_nan(v) {
-        return refused(1);
+    // The argument 0 is a number, and no table is too short: what is left is what the order alone is refused for.
+    match table_refusals::check(v, 0.0, false) {
+        Ok(()) => accepted(v),
+        Err(refusal) => GozhnerimOrder::from(refusal),
     }
-    if order::too_large(v) {
-        return refused(2);
-    }
-    accepted(v)
 }

@@ -1,10 +1,5 @@
 -- A refused request hands back the state that it was given.
-use mathlib.Core.Path.{◌≡◌}
-use mathlib.Core.Bool.{false, true≢false}
-use mathlib.Core.List.{List}
-use lib.Dec.{eqb}
-use lib.ListN.{length}
-use lib.Ieee.{Float}
+use Rattle.std.proofs.Common.{◌≡◌, false, true≢false, List, eqb, length, Float}
 use Rattle.ladder_machine.specs.Machine.{Request, asked, Verdict, refuses, repeats, climbs, starts_over, refused_by, effect, verdict}
 use Rattle.ladder_machine.specs.Held.{machine_of}
 use Rattle.ladder_states.specs.declared.Ladder.{Ladder}

@@ -1,10 +1,11 @@
 -- The ladder (01, "The ladder"): what a request answers, hands back and leaves of both tables, for every state, request
 -- and table content.
-use Rattle.std.specs.Prelude.{List, ℕ, ◌+◌, ◌-◌, length, Float}
+use Rattle.std.specs.Prelude.{List, ℕ, ◌+◌, ◌-◌, length, Float, Result, Ok, Err}
 use Rattle.std.proofs.Math.Option.{Option, some, none}
 use Rattle.derivatives.specs.Derivatives.{derivative}
 use Rattle.slots.specs.Slots.{filled}
-use Rattle.answer.specs.Answer.{refusal_of, pair_of}
+use Rattle.answer.specs.Answer.{refusal_of}
+use Rattle.answer.specs.declared.Refusal.{Refusal}
 use Rattle.tables.specs.Tables.{sequence_of, value_of, derivative_of}
 use Rattle.ladder_machine.specs.Machine.{Request, asked, Verdict, refused_by, written, Effect, stays, goes_on, starts_at}
 use Rattle.ladder_machine.specs.Machine.{effect, verdict}
@@ -12,8 +13,7 @@ use Rattle.ladder_machine.specs.Held.{machine_of}
 use Rattle.ladder_climb.specs.Climb.{carried_value, carried_derivative}
 use Rattle.ladder_states.specs.declared.Ladder.{Ladder}
 use Rattle.ladder_states.specs.States.{state_of, sequence_in, held_in}
-use Rattle.ladder.specs.declared.Written.{Written}
-use Rattle.ladder.specs.declared.Written.TheVariants.{Count, Nothing}
+use Rattle.ladder.specs.declared.Answered.{Answered}
 use Rattle.ladder.specs.declared.Reply.{Reply}
 pub mod Open
 
@@ -29,10 +29,10 @@ state_for q n =
 
 -- value k and derivative k, carried on from the state's two values
 abbrev pub value_from : Ladder → ℕ → Float
-value_from s = carried_value (sequence_in s) s.n s.low s.high
+value_from s = carried_value (sequence_in s) s.held.n s.values.low s.values.high
 
 abbrev pub derivative_from : Ladder → ℕ → Float
-derivative_from s = carried_derivative (sequence_in s) s.n s.low s.high
+derivative_from s = carried_derivative (sequence_in s) s.held.n s.values.low s.values.high
 
 -- the state at a higher n
 pub climbed_to : Ladder → ℕ → Ladder
@@ -42,7 +42,10 @@ climbed_to s n = state_of (sequence_in s) n (value_from s (n - 1)) (value_from s
 
 -- value n − 1, and the derivative formula over both values
 pub pair_from : Ladder → Float × Float
-pair_from s = (s.low, derivative s.function s.below s.x s.f (s.n - 1) s.low s.high)
+pair_from s =
+    let r = sequence_in s in
+    let v = s.values in
+    (v.low, derivative r.function r.below r.x r.f (s.held.n - 1) v.low v.high)
 
 -- the state handed back, the refusal's number (0 where there is none), the pair, and the written count
 pub record Given : Type 0 where
@@ -52,16 +55,20 @@ pub record Given : Type 0 where
   pub written : Option ℕ
 
 -- a reply in these words
-unfoldable pub written_of : Written → Option ℕ
-written_of (Count count) = some count
-written_of Nothing = none
+unfoldable pub written_of : Result Answered Refusal → Option ℕ
+written_of (Ok a) = some a.written
+written_of (Err refusal) = none
+
+unfoldable pub pair_in : Result Answered Refusal → Option (Float × Float)
+pair_in (Ok a) = some (a.pair.value, a.pair.derivative)
+pair_in (Err refusal) = none
 
 unfoldable pub given_by : Reply → Given
 given_by r = record {
   state = r.state;
   refusal = refusal_of r.answer;
-  pair = pair_of r.answer;
-  written = written_of r.written;
+  pair = pair_in r.answer;
+  written = written_of r.answer;
 }
 
 -- a refusal gives its number alone, and any other request answers from the state that it hands back

@@ -1,60 +1,51 @@
-// What is done on a judgement.
+// What is done on the case of an accepted request.
 
-ghost use Rattle.std.specs.Prelude.{◌≡◌, true, ◌+◌, ◌-◌, ◌≤◌, length};
+ghost use Rattle.std.specs.Prelude.{◌≡◌, true, ◌+◌, ◌-◌, ◌≤◌, length, Ok};
 ghost use Rattle.order.specs.Order.{top_rung};
 ghost use Rattle.slots.specs.Slots.{filled};
 ghost use Rattle.tables.specs.Tables.{value_of, derivative_of};
-ghost use Rattle.ladder_machine.specs.Machine.{asks, asked, refusal, refuses, verdict};
+ghost use Rattle.ladder_machine.specs.Machine.{asks, asked, refusal, verdict};
 ghost use Rattle.ladder_machine.specs.Held.{machine_of, verdict_of};
 ghost use Rattle.ladder_climb.specs.Climb.{room_above};
 ghost use Rattle.ladder_states.specs.States.{held_in};
-ghost use Rattle.ladder.specs.Ladder.{state_for, value_from, derivative_from, climbed_to, given_by, given_on};
+ghost use Rattle.ladder.specs.Ladder.{state_for, value_from, derivative_from, climbed_to, given_by};
 ghost use Rattle.ladder.specs.Ladder.{answered, outcome, outcome_by};
 
-use crate::{Reply, Written};
+use crate::{Answered, Reply};
+use answer::Pair;
 use floats::Function;
-use ladder_machine::Judgement;
-use ladder_states::{Ladder, sequence_in, state_of};
-use order::Rung;
-use rungs::Sequence;
-use tables::Answer;
-
-// The reply of a refusal.
-fn refuse(s: Ladder, number: u8) -> Reply
-    ensures { given_by result ≡ given_on (refuses number) s }
-{
-    Reply {
-        state: s,
-        answer: Answer::Refused(number),
-        written: Written::Nothing,
-    }
-}
+use ladder_machine::{Case, Held};
+use ladder_states::Ladder;
+use order::{Adjacent, Rung};
 
 // The reply of an accepted request, from the state that it hands back.
-fn answer(s: Ladder, count: Rung) -> Reply
-    requires { 1 ≤ s.n }
-    ensures { given_by result ≡ answered count s }
+fn answer(state: Ladder, written: Rung) -> Reply
+    requires { 1 ≤ state.held.n }
+    ensures { given_by result ≡ answered written state }
 {
-    let function = s.function;
-    let low = s.low;
-    let d = derivatives::derivative(function, s.below, s.x, s.f, s.n - 1, low, s.high);
+    let Held { sequence, n } = state.held;
+    let pair = Pair {
+        value: state.values.low,
+        derivative: derivatives::derivative(sequence, n - 1, state.values),
+    };
     Reply {
-        state: s,
-        answer: Answer::Pair(low, d),
-        written: Written::Count(count),
+        state,
+        answer: Ok(Answered { pair, written }),
     }
 }
 
 // Stores the rungs above a state's up to `top`, and gives the state there. No slot is read.
-fn climb(values: &mut [f64], derivatives: &mut [f64], s: Ladder, top: Rung) -> Ladder
-    requires { room_above s.n top (length values.old) (length derivatives.old) ≡ true }
-    ensures state { result ≡ climbed_to s top }
-    ensures values { values.new ≡ filled (value_from s) (s.n + 1) (s.n + 1) (top - s.n) values.old }
-    ensures derivatives { derivatives.new ≡ filled (derivative_from s) s.n s.n (top - s.n) derivatives.old }
+fn climb(values: &mut [f64], derivatives: &mut [f64], state: Ladder, top: Rung) -> Ladder
+    requires { room_above state.held.n top (length values.old) (length derivatives.old) ≡ true }
+    ensures state { result ≡ climbed_to state top }
+    ensures values { values.new
+        ≡ filled (value_from state) (state.held.n + 1) (state.held.n + 1) (top - state.held.n) values.old }
+    ensures derivatives { derivatives.new
+        ≡ filled (derivative_from state) state.held.n state.held.n (top - state.held.n) derivatives.old }
 {
-    let sequence = sequence_in(s);
-    let held = ladder_climb::climb(values, derivatives, sequence, s.n, s.low, s.high, top);
-    state_of(sequence, top, held.low, held.high)
+    let Held { sequence, n } = state.held;
+    let two = ladder_climb::climb(values, derivatives, sequence, n, state.values, top);
+    Ladder::new(sequence, top, two)
 }
 
 // Stores all rungs of a request, and gives the state that holds it.
@@ -70,39 +61,35 @@ fn start_over(
     ensures values { values.new ≡ filled (value_of function v x) 0 0 (top_rung v + 1) values.old }
     ensures derivatives { derivatives.new ≡ filled (derivative_of function v x) 0 0 (top_rung v) derivatives.old }
 {
-    let o = order::split(v);
-    let n = o.n;
-    let sequence = Sequence {
-        function: function,
-        below: o.below,
-        x: x,
-        f: o.f,
+    let split = order::split(v);
+    let sequence = split.sequence(function, x);
+    ladder_columns::fill_columns(values, derivatives, sequence, split.u, split.n);
+    let top = split.n as usize;
+    let two = Adjacent {
+        low: values[top - 1],
+        high: values[top],
     };
-    ladder_columns::fill_columns(values, derivatives, sequence, o.u, n);
-    let top = n as usize;
-    let last = top - 1;
-    state_of(sequence, n, values[last], values[top])
+    Ladder::new(sequence, split.n, two)
 }
 
-// Acts on the judgement of a request.
+// Acts on the case of a request.
 pub(crate) fn act(
     values: &mut [f64],
     derivatives: &mut [f64],
-    s: Ladder,
-    judgement: Judgement,
+    state: Ladder,
+    case: Case,
     function: Function,
     v: f64,
     x: f64,
 ) -> Reply
-    requires { verdict_of judgement
-        ≡ verdict (machine_of (held_in s)) (asked (asks function v x) (length values.old) (length derivatives.old)) }
+    requires { verdict_of (Ok case)
+        ≡ verdict (machine_of (held_in state)) (asked (asks function v x) (length values.old) (length derivatives.old)) }
     ensures { outcome (given_by result) values.new derivatives.new
-        ≡ outcome_by (verdict_of judgement) s (asks function v x) values.old derivatives.old }
+        ≡ outcome_by (verdict_of (Ok case)) state (asks function v x) values.old derivatives.old }
 {
-    match judgement {
-        Judgement::Refused(number) => refuse(s, number),
-        Judgement::Repeat(n) => answer(s, 0),
-        Judgement::Climb(from, to) => answer(climb(values, derivatives, s, to), to - from),
-        Judgement::StartOver(n) => answer(start_over(values, derivatives, function, v, x), n + 1),
+    match case {
+        Case::Repeat(_) => answer(state, 0),
+        Case::Climb { from, to } => answer(climb(values, derivatives, state, to), to - from),
+        Case::StartOver(n) => answer(start_over(values, derivatives, function, v, x), n + 1),
     }
 }

@@ -10,29 +10,29 @@ ghost use Rattle.ladder_machine.specs.Machine.{asks};
 ghost use Rattle.ladder.specs.Ladder.{given_by, outcome, requested};
 
 use actions::act;
+use answer::{Pair, Refusal};
 use floats::Function;
-use ladder_states::{Ladder, held_in};
+use ladder_states::Ladder;
 use order::Rung;
-use tables::Answer;
 
-// How many rungs a request wrote; a refusal has no count.
+// What is answered where a request is not refused: a pair, and how many rungs were written.
 #[derive(Clone, Copy)]
-pub enum Written {
-    Count(Rung),
-    Nothing,
+pub struct Answered {
+    pub pair: Pair,
+    pub written: Rung,
 }
 
-// What a request gives: the next state, the answer, and the written count.
+// What a request gives: the next state, and what is answered.
 #[derive(Clone, Copy)]
 pub struct Reply {
     pub state: Ladder,
-    pub answer: Answer,
-    pub written: Written,
+    pub answer: Result<Answered, Refusal>,
 }
 
-// D or V at order v and argument x: the request is judged, and then acted on.
+// D or V at order v and argument x: the request is judged, and then acted on. Function, order and argument stand apart,
+// as D_v(x) reads, and so do the two tables, as they are lent: the contract speaks of each before and after.
 pub fn request(
-    held: Ladder,
+    state: Ladder,
     function: Function,
     v: f64,
     x: f64,
@@ -40,9 +40,13 @@ pub fn request(
     derivatives: &mut [f64],
 ) -> Reply
     ensures { outcome (given_by result) values.new derivatives.new
-        ≡ requested held (asks function v x) values.old derivatives.old }
+        ≡ requested state (asks function v x) values.old derivatives.old }
 {
-    let fields = held_in(held);
-    let judgement = ladder_machine::judge(fields, function, v, x, values.len(), derivatives.len());
-    act(values, derivatives, held, judgement, function, v, x)
+    match ladder_machine::judge(state.held, function, v, x, values.len(), derivatives.len()) {
+        Ok(case) => act(values, derivatives, state, case, function, v, x),
+        Err(refusal) => Reply {
+            state,
+            answer: Err(refusal),
+        },
+    }
 }

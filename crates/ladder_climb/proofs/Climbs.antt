@@ -1,16 +1,11 @@
 -- What a climb carries on, a turn of it (the next rung, and the two slots that it fills), and what it leaves with room and without it.
-use mathlib.Core.Path.{◌≡◌, sym, ap, ◌∙◌}
-use mathlib.Core.List.{List}
-use mathlib.Core.Bool.{true, false}
-use Prim.Native.Nat.{ℕ, suc, ◌+◌, ◌-◌, ◌≤◌, ◌<◌}
-use native.Mathlib.Omega.{arith}
-use lib.ListN.{length, set}
-use lib.Ieee.{Float}
+use Rattle.std.proofs.Common.{◌≡◌, sym, ap, ◌∙◌, List, true, false, ℕ, suc, ◌+◌, ◌-◌, ◌≤◌, ◌<◌, arith, length, set}
+use Rattle.std.specs.Float.Ieee.{Float}
 use Rattle.recurrence.specs.Recurrence.{step}
 use Rattle.recurrence.specs.ThreeTerm.{continued}
 use Rattle.recurrence.proofs.ThreeTerm.{continued_next}
 use Rattle.derivatives.specs.Derivatives.{derivative}
-use Rattle.rungs.specs.declared.Sequence.{Sequence}
+use Rattle.order.specs.declared.Sequence.{Sequence}
 use Rattle.slots.specs.Slots.{filled}
 use Rattle.slots.proofs.Filled.{filled_more}
 use Rattle.ladder_climb.specs.Climb.{carried_value, carried_derivative, room_above, top_values, climbed_values, climbed_derivatives}
@@ -82,6 +77,23 @@ module _ (r : Sequence) (n : ℕ) (low high : Float) where
         (ap (λ (i : ℕ). set (filled slope n n (k - n) l) i (slope i)) e
         ∙ filled_more slope n n (k - n) l
         ∙ ap (λ (i : ℕ). filled slope n n i l) m)
+
+  -- one turn: the two rungs that are held after it, and the two slots that it fills
+  pub next : (k : ℕ) (a b c : Float) → 1 ≤ n → n ≤ k → a ≡ carried_value r n low high (k - 1) → b ≡ carried_value r n low high k
+      → c ≡ step r.function r.below r.x r.f (k + 1) a b
+      → (b ≡ carried_value r n low high (k + 1 - 1))
+      × (c ≡ carried_value r n low high (k + 1))
+      × ((t l : List Float) → t ≡ filled (carried_value r n low high) (n + 1) (n + 1) (k - n) l
+      → set t (k + 1) c ≡ filled (carried_value r n low high) (n + 1) (n + 1) (k + 1 - n) l)
+      × ((d : Float) (t l : List Float) → d ≡ derivative r.function r.below r.x r.f k b c
+      → t ≡ filled (carried_derivative r n low high) n n (k - n) l
+      → set t k d ≡ filled (carried_derivative r n low high) n n (k + 1 - n) l)
+  next k a b c some from ea eb ec = (
+    next_low k a b c some from ea eb ec,
+    next_high k a b c some from ea eb ec,
+    next_value k a b c some from ea eb ec,
+    next_derivative k a b c some from ea eb ec,
+  )
 
   -- the climb with room, and without it
   module _ (top : ℕ) (l d : List Float) where

@@ -4,7 +4,7 @@ use Rattle.std.specs.Prelude.{List, ℕ, ◌+◌, ◌-◌, Bool, ◌&&◌, cond,
 use Rattle.recurrence.specs.Recurrence.{step}
 use Rattle.recurrence.specs.ThreeTerm.{continued}
 use Rattle.derivatives.specs.Derivatives.{derivative}
-use Rattle.rungs.specs.declared.Sequence.{Sequence}
+use Rattle.order.specs.declared.Sequence.{Sequence}
 use Rattle.slots.specs.Slots.{filled}
 pub mod Open
 

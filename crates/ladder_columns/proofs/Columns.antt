@@ -1,13 +1,7 @@
 -- The columns in two lists: a turn of the derivatives' loop, and what the two calls leave together.
-use mathlib.Core.Path.{◌≡◌, ◌∙◌}
-use mathlib.Core.List.{List}
-use mathlib.Core.Bool.{true, false}
-use Prim.Native.Nat.{ℕ, ◌+◌, ◌<◌}
-use native.Mathlib.Nat.{zero-add}
-use native.Mathlib.Omega.{arith}
-use lib.ListN.{length, get_or, set}
-use lib.Ieee.{Float, nan}
-use Rattle.rungs.specs.declared.Sequence.{Sequence}
+use Rattle.std.proofs.Common.{◌≡◌, ◌∙◌, List, true, false, ℕ, ◌+◌, ◌<◌, zero-add, arith, length, get_or, set}
+use Rattle.std.specs.Float.Ieee.{Float, nan}
+use Rattle.order.specs.declared.Sequence.{Sequence}
 use Rattle.derivatives.specs.Derivatives.{derivative}
 use Rattle.rungs.specs.ColumnValues.{value, derivative_at}
 use Rattle.slots.specs.Slots.{filled, slot}

@@ -1,7 +1,7 @@
 -- The two columns of a table, values and derivatives, in two lists (01, "Splitting the order" and "Upward, downward,
 -- scaled").
 use Rattle.std.specs.Prelude.{List, ℕ, ◌+◌, Bool, ◌&&◌, cond, leb, length, Float}
-use Rattle.rungs.specs.declared.Sequence.{Sequence}
+use Rattle.order.specs.declared.Sequence.{Sequence}
 use Rattle.rungs.specs.ColumnValues.{value, derivative_at}
 use Rattle.slots.specs.Slots.{filled}
 use Rattle.value_column.specs.ValueColumn.{room_up_to}

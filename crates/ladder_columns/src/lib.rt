@@ -7,8 +7,7 @@ ghost use Rattle.slots.specs.Slots.{filled};
 ghost use Rattle.value_column.specs.OverSlots.{derivative_over};
 ghost use Rattle.ladder_columns.specs.Columns.{room_for, value_column, derivative_column};
 
-use order::Rung;
-use rungs::Sequence;
+use order::{Adjacent, Rung, Sequence};
 use value_column::fill_values;
 
 // Stores n derivatives, over the values of another table.
@@ -18,19 +17,12 @@ fn fill_derivatives_over(values: &[f64], derivatives: &mut [f64], sequence: Sequ
     ensures { derivatives.new
         ≡ filled (derivative_over sequence values.now) 0 0 n derivatives.old }
 {
-    let function = sequence.function;
-    for k in 0..n {
-        let at = k as usize;
-        let next = at + 1;
-        derivatives[at] = derivatives::derivative(
-            function,
-            sequence.below,
-            sequence.x,
-            sequence.f,
-            k,
-            values[at],
-            values[next],
-        );
+    for (k, slot) in derivatives[..n as usize].iter_mut().enumerate() {
+        let two = Adjacent {
+            low: values[k],
+            high: values[k + 1],
+        };
+        *slot = derivatives::derivative(sequence, k as Rung, two);
     }
 }
 
@@ -38,10 +30,7 @@ fn fill_derivatives_over(values: &[f64], derivatives: &mut [f64], sequence: Sequ
 fn has_room(n: Rung, values: usize, derivatives: usize) -> bool
     ensures { result ≡ room_for n values derivatives }
 {
-    if value_column::has_room(n, values) {
-        return n as usize <= derivatives;
-    }
-    false
+    value_column::has_room(n, values) && n as usize <= derivatives
 }
 
 // Stores values 0 to n in one table and derivatives 0 to n - 1 in another. Where a table is too short, or n is not 1 to

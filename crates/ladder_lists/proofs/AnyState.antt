@@ -1,21 +1,15 @@
 -- Any state handed in: each case by the definition's clause, in the words of the recurrence step and the derivative formula.
-use mathlib.Core.Path.{◌≡◌, refl, sym, ap, ◌∙◌, subst}
-use mathlib.Core.Bool.{false}
-use mathlib.Core.List.{List}
-use mathlib.Core.Option.{some, none}
-use Prim.Native.Nat.{ℕ, ◌+◌, ◌-◌, ◌≤◌, ◌<◌}
-use native.Mathlib.Nat.{sub_self}
-use native.Mathlib.Omega.{arith}
-use lib.ListN.{length}
-use lib.Ieee.{Float, nan}
+use Rattle.std.proofs.Common.{◌≡◌, refl, sym, ap, ◌∙◌, subst, false, List, ℕ, ◌+◌, ◌-◌, ◌≤◌, ◌<◌, arith, length, Float}
+use Rattle.std.proofs.Math.Option.{some, none}
+use Rattle.std.specs.Float.{nan}
+use Rattle.std.proofs.Math.Nat.{sub_self}
 use Rattle.order.specs.Order.{top_rung}
-use Rattle.derivatives.specs.Derivatives.{derivative}
 use Rattle.slots.specs.Slots.{filled, slot}
 use Rattle.slots.proofs.Filled.{length_filled, filled_in, filled_out, filled_same}
 use Rattle.tables.specs.Tables.{answer}
 use Rattle.ladder_machine.specs.Machine.{Request, request, refusal, Verdict, refuses, repeats, climbs, starts_over, refused_by, Effect, stays, goes_on, starts_at, effect, held_then}
 use Rattle.ladder_machine.specs.Held.{counts_empty, machine_of}
-use Rattle.ladder_machine.proofs.Laws.{accepted, not_empty, not_counted_empty, Means, verdict_means, climb_parts, Does, effect_means, refuses_count, repeats_count, climbs_count, starts_count, next_by, held_stays, held_goes_on, held_starts, next_state}
+use Rattle.ladder_machine.proofs.Laws.{accepted, not_empty, not_counted_empty, Means, verdict_means, climb_parts, Does, effect_means, refuses_count, repeats_count, climbs_count, starts_count, next_by, held_stays, held_goes_on, held_starts, next_same_sequence}
 use Rattle.ladder_climb.specs.Climb.Open.{carried_derivative_is}
 use Rattle.ladder_climb.proofs.Climbs.{carried_low, carried_high, carried_step}
 use Rattle.ladder_states.specs.declared.Ladder.{Ladder}
@@ -23,7 +17,7 @@ use Rattle.ladder_states.specs.States.{state_of, sequence_in, held_in}
 use Rattle.ladder.specs.Ladder.{value_from, derivative_from, climbed_to, pair_then, given_on, Outcome, outcome, state_then, outcome_by, requested}
 use Rattle.ladder.specs.Ladder.Open.{climbed_to_is, pair_from_is, state_stays, state_goes_on, state_starts, values_stay, values_go_on, derivatives_stay, derivatives_go_on, outcome_by_law, requested_is}
 use Rattle.ladder.proofs.Climbs.{climbed_here}
-use Rattle.ladder_lists.specs.Demand3.{ask, Number, Long, tabled_value, tabled_derivative, held_after, state_due, pair_due, values_due, derivatives_due, says, JustWritten, Climbed, StateRight}
+use Rattle.ladder_lists.specs.Demand3.{ask, derived, Number, Long, tabled_value, tabled_derivative, held_after, state_due, pair_due, values_due, derivatives_due, says, JustWritten, Climbed, StateRight}
 use Rattle.ladder_lists.proofs.Held.{Known, facts, state_held, state_machine}
 use Rattle.ladder_lists.proofs.Turns.{known_request, starts}
 
@@ -41,15 +35,12 @@ module _ (table : Request → List Float) (long : Long table) (s : Ladder) (q : 
   said = says s (ask q l d)
 
   by : (w : Verdict) → said ≡ w → requested s q l d ≡ outcome_by w s q l d
-  unfolding held_in
   by w e = requested_is s q l d ∙ rw e
 
   means : (w : Verdict) → said ≡ w → Means (held_in s) q (length l) (length d) w
-  unfolding held_in
   means w e = subst (Means (held_in s) q (length l) (length d)) e (verdict_means (held_in s) q (length l) (length d))
 
   does : Does (held_in s) q (length l) (length d) (effect said)
-  unfolding held_in
   does = effect_means (held_in s) q (length l) (length d)
 
   known : Number (request q) → refusal q (length l) (length d) ≡ 0 → Known q
@@ -61,15 +52,15 @@ module _ (table : Request → List Float) (long : Long table) (s : Ladder) (q : 
   unfolding given_on refused_by effect pair_then
   refused_is number e = by (refuses number) e ∙ outcome_by_law s q l d (refuses number) ∙ rw (state_stays s q, values_stay s q l, derivatives_stay s q d, refuses_count number)
 
-  repeat_is : (n : ℕ) → said ≡ repeats n → (s.n ≡ n) × (top_rung q.v ≡ n)
+  repeat_is : (n : ℕ) → said ≡ repeats n → (s.held.n ≡ n) × (top_rung q.v ≡ n)
       × (requested s q l d
-      ≡ outcome (record { state = s; refusal = 0; pair = some (s.low, derivative s.function s.below s.x s.f (n - 1) s.low s.high); written = some 0 }) l d)
-  unfolding given_on refused_by effect pair_then filled held_in
+      ≡ outcome (record { state = s; refusal = 0; pair = some (s.values.low, derived s (n - 1) s.values.low s.values.high); written = some 0 }) l d)
+  unfolding given_on refused_by effect pair_then filled
   repeat_is n e =
       let p = means (repeats n) e in
       let held = (not_empty (held_in s) p.2).0 in
       let here : climbed_to s n ≡ s = ap (climbed_to s) (sym p.4) ∙ climbed_here s held in
-      let formula = ap (λ (i : ℕ). derivative s.function s.below s.x s.f (i - 1) s.low s.high) p.4 in (
+      let formula = ap (λ (i : ℕ). derived s (i - 1) s.values.low s.values.high) p.4 in (
         p.4,
         p.1,
         by (repeats n) e
@@ -83,31 +74,31 @@ module _ (table : Request → List Float) (long : Long table) (s : Ladder) (q : 
   climb_is m n e = by (climbs m n) e ∙ outcome_by_law s q l d (climbs m n) ∙ rw (state_goes_on s q m n, values_go_on s q l m n, derivatives_go_on s q d m n)
 
   -- the rungs carried on
-  climbed_is : (m n : ℕ) → said ≡ climbs m n → (s.n ≡ m) × (top_rung q.v ≡ n) × (2 ≤ m) × (m < n) × Climbed s m n l d (requested s q l d)
-  unfolding held_in given_on refused_by effect pair_then state_of sequence_in
+  climbed_is : (m n : ℕ) → said ≡ climbs m n → (s.held.n ≡ m) × (top_rung q.v ≡ n) × (2 ≤ m) × (m < n) × Climbed s m n l d (requested s q l d)
+  unfolding given_on refused_by effect pair_then
   climbed_is m n e =
       let p = means (climbs m n) e in
-      let c = climb_parts s.function s.below s.x s.f s.n (top_rung q.v) p.5 in
+      let c = climb_parts s.held.sequence.function s.held.sequence.below s.held.sequence.x s.held.sequence.f s.held.n (top_rung q.v) p.5 in
       let a = accepted q (length l) (length d) p.0 in
       let up : m < n = omega (arith, c.0, p.4, p.1) in
       let two : 2 ≤ m = omega (arith, c.1, p.4) in
       let w = value_from s in
       let is = climb_is m n e in
       let state : climbed_to s n ≡ state_of (sequence_in s) n (w (n - 1)) (w n) = climbed_to_is s n in
-      let formula : (k : ℕ) → derivative_from s k ≡ derivative s.function s.below s.x s.f k (w k) (w (k + 1)) = carried_derivative_is (sequence_in s) s.n s.low s.high in
-      let over : filled (derivative_from s) m m (n - m) d ≡ filled (λ (k : ℕ). derivative s.function s.below s.x s.f k (w k) (w (k + 1))) m m (n - m) d =
-      filled_same (derivative_from s) (λ (k : ℕ). derivative s.function s.below s.x s.f k (w k) (w (k + 1))) m m m (n - m) d (λ k b. formula (m + k)) in (
+      let formula : (k : ℕ) → derivative_from s k ≡ derived s k (w k) (w (k + 1)) = carried_derivative_is (sequence_in s) s.held.n s.values.low s.values.high in
+      let over : filled (derivative_from s) m m (n - m) d ≡ filled (λ (k : ℕ). derived s k (w k) (w (k + 1))) m m (n - m) d =
+      filled_same (derivative_from s) (λ (k : ℕ). derived s k (w k) (w (k + 1))) m m m (n - m) d (λ k b. formula (m + k)) in (
         p.4,
         p.1,
         two,
         up,
         record {
           w = w;
-          low = ap (λ (k : ℕ). w (k - 1)) (sym p.4) ∙ carried_low (sequence_in s) s.n s.low s.high (omega (arith, c.1));
-          high = ap w (sym p.4) ∙ carried_high (sequence_in s) s.n s.low s.high;
-          carried = λ k h b. carried_step (sequence_in s) s.n s.low s.high k (omega (arith, c.1)) (omega (arith, p.4));
+          low = ap (λ (k : ℕ). w (k - 1)) (sym p.4) ∙ carried_low (sequence_in s) s.held.n s.values.low s.values.high (omega (arith, c.1));
+          high = ap w (sym p.4) ∙ carried_high (sequence_in s) s.held.n s.values.low s.values.high;
+          carried = λ k h b. carried_step (sequence_in s) s.held.n s.values.low s.values.high k (omega (arith, c.1)) (omega (arith, p.4));
           values = rw is (just_written w (m + 1) (n - m) l (omega (arith, a.3, p.1)));
-          derivatives = rw (is, over) (just_written (λ (k : ℕ). derivative s.function s.below s.x s.f k (w k) (w (k + 1))) m (n - m) d (omega (arith, a.4, p.1)));
+          derivatives = rw (is, over) (just_written (λ (k : ℕ). derived s k (w k) (w (k + 1))) m (n - m) d (omega (arith, a.4, p.1)));
           state = rw (is, state);
           pair = rw (is, state, pair_from_is);
           refusal = rw is;
@@ -134,7 +125,6 @@ module _ (table : Request → List Float) (long : Long table) (s : Ladder) (q : 
 
   -- by the effect: it does not count as empty, and its machine is the next
   holding_then : Number (request q) → (e : Effect) → Does (held_in s) q (length l) (length d) e → refusal q (length l) (length d) ≡ 0 → counts_empty (held_in (state_then e s q)) ≡ false
-  unfolding held_in state_of sequence_in
   holding_then f stays a ok = absurd (a ok)
   holding_then f (goes_on m n) a ok =
       let p = not_empty (held_in s) a.2 in
@@ -144,10 +134,9 @@ module _ (table : Request → List Float) (long : Long table) (s : Ladder) (q : 
   holding_then f (starts_at n) a ok = rw (state_starts s q n) (state_held q (known f ok) n (omega (arith, (facts q (known f ok)).least, a.1)) (omega (arith, a.1)))
 
   machine_then : Number (request q) → (e : Effect) → Does (held_in s) q (length l) (length d) e → machine_of (held_in (state_then e s q)) ≡ held_then (machine_of (held_in s)) e (request q)
-  unfolding held_in state_of sequence_in
   machine_then f stays a = rw (state_stays s q) (sym (held_stays (machine_of (held_in s)) (request q)))
   machine_then f (goes_on m n) a =
-      next_state (held_in s) q (length l) (length d) m n (held_in (state_then (goes_on m n) s q)) a (holding_then f (goes_on m n) a a.0) (rw (state_goes_on s q m n, climbed_to_is s n)) (rw (state_goes_on s q m n, climbed_to_is s n)) (rw (state_goes_on s q m n, climbed_to_is s n)) (rw (state_goes_on s q m n, climbed_to_is s n)) (rw (state_goes_on s q m n, climbed_to_is s n))
+      next_same_sequence (held_in s) q (length l) (length d) m n (held_in (state_then (goes_on m n) s q)) a (holding_then f (goes_on m n) a a.0) (rw (state_goes_on s q m n, climbed_to_is s n))
       ∙ sym (held_goes_on (machine_of (held_in s)) m n q)
   machine_then f (starts_at n) a =
       rw (state_starts s q n) (state_machine q (known f a.0) n (omega (arith, (facts q (known f a.0)).least, a.1)) (omega (arith, a.1)))
@@ -161,7 +150,6 @@ module _ (table : Request → List Float) (long : Long table) (s : Ladder) (q : 
   accepted_then (starts_over n) p e = p.0
 
   pub state_right : StateRight table s q l d
-  unfolding held_in
   state_right = record {
     refusal = refused_is;
     repeat = repeat_is;

@@ -1,13 +1,8 @@
 -- The state that holds an accepted request: its machine, its pair, and the table call's slots.
-use mathlib.Core.Path.{◌≡◌, sym, ap, ◌∙◌}
-use mathlib.Core.Bool.{false}
-use mathlib.Core.List.{List}
-use mathlib.Core.Option.{some}
-use Prim.Native.Nat.{ℕ, ◌+◌, ◌-◌, ◌*◌, ◌≤◌, ◌<◌}
-use native.Mathlib.Omega.{arith}
-use lib.Dec.{T}
-use lib.ListN.{length}
-use lib.Ieee.{Float, binary64, fits, is_nan}
+use Rattle.std.proofs.Common.{◌≡◌, sym, ap, ◌∙◌, false, List, ℕ, ◌+◌, ◌-◌, ◌*◌, ◌≤◌, ◌<◌, arith, T, length, Float}
+use Rattle.std.proofs.Math.Option.{some}
+use Rattle.std.specs.Float.{binary64}
+use Rattle.std.specs.Float.Ieee.{fits, is_nan}
 use Rattle.order.specs.Order.{below, shifted, fraction_of, top_rung, num}
 use Rattle.order.specs.Facts.{InRange, Split}
 use Rattle.order.proofs.Facts.{split_facts}
@@ -19,7 +14,7 @@ use Rattle.tables.proofs.Calls.{not_refused_long, value_is, derivative_is, value
 use Rattle.ladder_machine.specs.Machine.{Request, holding}
 use Rattle.ladder_machine.specs.Held.{counts_empty, machine_of}
 use Rattle.ladder_machine.proofs.Laws.{machine_holding, not_counted_empty}
-use Rattle.ladder_states.specs.States.{state_of, held_in}
+use Rattle.ladder_states.specs.States.{held_in}
 use Rattle.ladder.specs.Ladder.{state_for, pair_from}
 use Rattle.ladder.specs.Ladder.Open.{state_for_is, pair_from_is}
 use Rattle.ladder_lists.specs.Demand3.{Long, tabled, tabled_value, tabled_derivative, held_after}
@@ -46,19 +41,16 @@ module _ (q : Request) (known : Known q) where
   -- the state that holds its rungs up to n
   module _ (n : ℕ) (least : 1 ≤ n) (most : n ≤ top_rung q.v) where
     pub state_held : counts_empty (held_in (state_for q n)) ≡ false
-    unfolding held_in state_of
     state_held =
         rw (state_for_is q n)
         (not_counted_empty _ least (omega (arith, facts.most)) known.argument (fraction_number facts) (fraction_small facts))
 
     pub state_machine : machine_of (held_in (state_for q n)) ≡ holding q n
-    unfolding held_in state_of
     state_machine =
-        machine_holding (held_in (state_for q n)) q n state_held (rw (state_for_is q n)) (rw (state_for_is q n)) (rw (state_for_is q n)) (rw (state_for_is q n)) (rw (state_for_is q n))
+        machine_holding (held_in (state_for q n)) q n state_held (rw (state_for_is q n))
 
     -- its pair is value and derivative n − 1
     pub state_pair : pair_from (state_for q n) ≡ (value_of q.function q.v q.x (n - 1), derivative_of q.function q.v q.x (n - 1))
-    unfolding state_of
     state_pair = let e : n - 1 + 1 ≡ n = omega arith in pair_from_is (state_for q n) ∙ rw (state_for_is q n, derivative_by q (n - 1), e)
 
   -- ---- the table call on a table long enough
@@ -88,7 +80,7 @@ module _ (q : Request) (known : Known q) where
         ∙ rw (table_value (top_rung q.v - 1) (omega arith), table_derivative (top_rung q.v - 1) (omega (arith, facts.least)))
 
     pub state_after : (n : ℕ) → n ≤ top_rung q.v → state_for q n ≡ held_after table q n
-    unfolding held_after state_of
+    unfolding held_after
     state_after n h = rw (table_value (n - 1) (omega arith), table_value n h) (state_for_is q n)
 
     pub table_length : num q.v + top_rung q.v ≤ length (tabled table q)

@@ -1,9 +1,6 @@
 -- DEMAND 3: the list by induction, over what is held between two calls; and any state, by the definition's cases.
-use mathlib.Core.Path.{◌≡◌, refl, sym, ap, ◌∙◌}
-use mathlib.Core.Bool.{true}
-use mathlib.Core.List.{List, [], ◌∷◌, map}
-use mathlib.Core.Option.{Option, some, none}
-use lib.Ieee.{Float}
+use Rattle.std.proofs.Common.{◌≡◌, refl, sym, ap, ◌∙◌, true, List, [], ◌∷◌, map, Float}
+use Rattle.std.proofs.Math.Option.{Option, some, none}
 use Rattle.ladder_machine.specs.Machine.{Request, Inputs, request, Effect, effect, verdict, next, verdicts, after}
 use Rattle.ladder_machine.specs.Held.{counts_empty, machine_of}
 use Rattle.ladder_machine.proofs.Laws.{holding_parts, no_verdicts, more_verdicts, after_none, after_more}
@@ -91,7 +88,6 @@ module _ (table : Request → List Float) (long : Long table) (s₀ : Ladder) (n
 -- ---- DEMAND 3
 
 pub demand3 : Demand3
-unfolding held_in
 demand3 = record {
   begins = nothing_held;
   lists = λ table long s nothing cs numbers. record {

@@ -1,21 +1,17 @@
 -- P11: D, x = 0, v = 2, 4, 4, 2 on one ladder, with tables of 6 and 5 slots, whatever they hold: by demand 3, the machine's cases and the table call's
 -- answers.
-use mathlib.Core.Path.{◌≡◌, refl, sym, ap, ◌∙◌}
-use mathlib.Core.List.{List, [], ◌∷◌, map}
-use mathlib.Core.Logic.{inr}
-use mathlib.Core.Option.{Option, some}
-use Prim.Native.Nat.{ℕ, ◌*◌}
-use native.Mathlib.Nat.{le_of_eq}
-use native.Mathlib.Omega.{arith}
-use lib.ListN.{length, get_or, replicate, length-replicate}
-use lib.Ieee.{Float, nan, neg, fits, is_nan, of_bits}
+use Rattle.std.proofs.Common.{◌≡◌, refl, sym, ap, ◌∙◌, List, [], ◌∷◌, map, inr, ℕ, ◌*◌, le_of_eq, arith, length, get_or}
+use Rattle.std.proofs.Common.{replicate, Float}
+use Rattle.std.proofs.Math.Option.{Option, some}
+use Rattle.std.specs.Float.{nan}
+use Rattle.std.specs.Float.Ieee.{neg, fits, is_nan, of_bits}
+use Rattle.std.proofs.Math.ListN.{length-replicate}
 use Rattle.floats.specs.Operations.{bits, decimal, f0, f1, f2, f2_is}
 use Rattle.order.specs.Order.{num}
 use Rattle.order.proofs.Laws.{order_two, order_four, large, top, columns}
 use Rattle.slots.specs.Slots.{filled}
 use Rattle.slots.proofs.Filled.{filled_in, filled_out}
 use Rattle.floats.specs.declared.Function.TheVariants.{D}
-use Rattle.answer.specs.Answer.{pair_of}
 use Rattle.tables.specs.Tables.{answer}
 use Rattle.tables.proofs.Values.{P7, four_values, four_answer}
 use Rattle.ladder_machine.specs.Machine.{Request, asks, repeats, climbs, starts_over, effect, verdicts, empty}
@@ -24,7 +20,7 @@ use Rattle.ladder_machine.proofs.Values.{P11_verdicts}
 use Rattle.ladder_states.specs.declared.Ladder.{Ladder}
 use Rattle.ladder_states.specs.States.{empty_state}
 use Rattle.ladder.specs.declared.Reply.{Reply}
-use Rattle.ladder.specs.Ladder.{written_of, given_by, Outcome, outcome, requested}
+use Rattle.ladder.specs.Ladder.{written_of, pair_in, given_by, Outcome, outcome, requested}
 use Rattle.ladder.proofs.Outcomes.{lengths_kept}
 use Rattle.ladder_lists.specs.Demand3.{Call, ask, fed, called_by, turns, Numbers, Long, tabled_value, tabled_derivative, pair_due, values_due, derivatives_due, due, due_all}
 use Rattle.ladder_lists.specs.Examples.{on_one_ladder, shown, two, four}
@@ -160,23 +156,19 @@ module _ (l d : List Float) (el : length l ≡ 6) (ed : length d ≡ 5) (s : Lad
   unfolding given_by
   made_fourth = e4 ∙ rw f2_is (ap (λ (o : Outcome). requested o.given.state two o.values o.derivatives) made_third)
 
-  pub counts : written_of r1.written ∷ written_of r2.written ∷ written_of r3.written ∷ written_of r4.written ∷ [] ≡ some 4 ∷ some 2 ∷ some 0 ∷ some 4 ∷ []
-  unfolding given_by due_all due pair_due effect
-  counts =
-      let count : Outcome → Option ℕ = λ o. o.given.written in
-      rw (
-        ap count (made_first ∙ nth l d el ed 0),
-        ap count (made_second ∙ nth l d el ed 1),
-        ap count (made_third ∙ nth l d el ed 2),
-        ap count (made_fourth ∙ nth l d el ed 3),
-        starts_count 3,
-        climbs_count 3 5,
-        repeats_count 5,
-      )
+  told : map shown (outcome (given_by r1) l1 d1 ∷ outcome (given_by r2) l2 d2 ∷ outcome (given_by r3) l3 d3 ∷ outcome (given_by r4) l4 d4 ∷ [])
+      ≡ (some 4, some (neg f1, f0)) ∷ (some 2, some (decimal 3 0, f0)) ∷ (some 0, some (decimal 3 0, f0)) ∷ (some 4, some (neg f1, f0)) ∷ []
+  unfolding on_one_ladder
+  told = rw (made_first, made_second, made_third, made_fourth) (shows l d el ed)
 
-  pub at_four : pair_of r2.answer ≡ some (decimal 3 0, f0)
-  unfolding given_by due_all due pair_due effect
-  at_four = ap (λ (o : Outcome). o.given.pair) (made_second ∙ nth l d el ed 1) ∙ answer_at_four
+  pub counts : map written_of (r1.answer ∷ r2.answer ∷ r3.answer ∷ r4.answer ∷ []) ≡ some 4 ∷ some 2 ∷ some 0 ∷ some 4 ∷ []
+  unfolding given_by shown
+  counts = ap (map (λ (p : Option ℕ × Option (Float × Float)). p.0)) told
+
+  pub pairs : map pair_in (r1.answer ∷ r2.answer ∷ r3.answer ∷ r4.answer ∷ [])
+      ≡ some (neg f1, f0) ∷ some (decimal 3 0, f0) ∷ some (decimal 3 0, f0) ∷ some (neg f1, f0) ∷ []
+  unfolding given_by shown
+  pairs = ap (map (λ (p : Option ℕ × Option (Float × Float)). p.1)) told
 
   pub stored : ◌≡◌ {A = Float × Float} (get_or l4 4 nan, get_or d4 4 nan) (decimal 3 0, f0)
   stored =

@@ -1,17 +1,12 @@
 -- The rungs finished of the last accepted request in the two tables: begun by a start-over, kept or grown by every other call, and handed on with the tables.
 --
-use mathlib.Core.Path.{◌≡◌, sym, ap, ◌∙◌}
-use mathlib.Core.Bool.{true, true≢false}
-use mathlib.Core.List.{List}
-use mathlib.Core.Logic.{◌⊎◌, inl, inr}
-use mathlib.Core.Option.{Option, some, none}
-use Prim.Native.Nat.{ℕ, ◌+◌, ◌-◌, ◌≤◌, ◌<◌, min}
-use native.Mathlib.Nat.{min-le_right}
-use native.Mathlib.Omega.{arith}
-use lib.Dec.{T}
-use lib.ListN.{length, get_or, take, drop, length-take, length-drop}
-use lib.Seq.{length-take-le, get_or-take, get_or-drop, ext_get_or}
-use lib.Ieee.{Float, nan, binary64, fits}
+use Rattle.std.proofs.Common.{◌≡◌, sym, ap, ◌∙◌, true, true≢false, List, ◌⊎◌, inl, inr, ℕ, ◌+◌, ◌-◌, ◌≤◌, ◌<◌, min}
+use Rattle.std.proofs.Common.{arith, T, length, get_or, take, drop, length-take, length-drop, length-take-le}
+use Rattle.std.proofs.Common.{get_or-take, get_or-drop, ext_get_or, Float}
+use Rattle.std.proofs.Math.Option.{Option, some, none}
+use Rattle.std.specs.Float.{nan, binary64}
+use Rattle.std.specs.Float.Ieee.{fits}
+use Rattle.std.proofs.Math.Nat.{min-le_right}
 use Rattle.floats.proofs.Tests.{lt_or_ge}
 use Rattle.order.specs.Order.{num}
 use Rattle.slots.specs.Slots.{filled, slot}

@@ -1,20 +1,15 @@
 -- The rungs of the request held, and a request that goes on from them: for the same sequence, at the same n, or at a higher one on a forward branch. The state
 -- comes to hold the new request.
-use mathlib.Core.Path.{◌≡◌, sym, ap, ◌∙◌}
-use mathlib.Core.Bool.{true}
-use mathlib.Core.Logic.{◌⊎◌, inl, inr}
-use Prim.Native.Nat.{ℕ, ◌+◌, ◌-◌, ◌≤◌, ◌<◌}
-use native.Mathlib.Nat.{eq-or-lt_of_le}
-use native.Mathlib.Omega.{arith}
-use lib.Dec.{T}
-use lib.Ieee.{binary64, fits}
+use Rattle.std.proofs.Common.{◌≡◌, sym, ap, ◌∙◌, true, ◌⊎◌, inl, inr, ℕ, ◌+◌, ◌-◌, ◌≤◌, ◌<◌, eq-or-lt_of_le, arith, T}
+use Rattle.std.specs.Float.{binary64}
+use Rattle.std.specs.Float.Ieee.{fits}
 use Rattle.floats.specs.Operations.{◌⊕◌, whole}
 use Rattle.order.specs.Order.{below, shifted, fraction_of, top_rung, num}
 use Rattle.order.specs.Facts.{Split}
 use Rattle.branches.specs.declared.Branch.TheVariants.{Forward}
 use Rattle.branches.specs.Branches.{branch_of, runs_forward}
 use Rattle.branches.proofs.Laws.{forward_branch, forward_held, forward_higher}
-use Rattle.rungs.specs.declared.Sequence.{Sequence}
+use Rattle.order.specs.declared.Sequence.{Sequence}
 use Rattle.rungs.specs.Rungs.{rung}
 use Rattle.rungs.specs.ColumnValues.{value}
 use Rattle.rungs.proofs.Laws.{rungs_on, value_forward}
@@ -54,20 +49,17 @@ module _ (p q : Request) (known_p : Known p) (known_q : Known q)
   held_state : held ≡ state_of r m (value_of p.function p.v p.x (m - 1)) (value_of p.function p.v p.x m)
   held_state = state_for_is p m ∙ rw one_sequence
 
-  held_n : held.n ≡ m
-  unfolding state_of
+  held_n : held.held.n ≡ m
   held_n = rw held_state
 
   held_low : value_from held (m - 1) ≡ value_of p.function p.v p.x (m - 1)
-  unfolding state_of
   held_low =
       ap (λ (k : ℕ). value_from held (k - 1)) (sym held_n)
-      ∙ carried_low (sequence_in held) held.n held.low held.high (omega (arith, held_n, all, (facts p known_p).least))
-      ∙ ap (λ (s : Ladder). s.low) held_state
+      ∙ carried_low (sequence_in held) held.held.n held.values.low held.values.high (omega (arith, held_n, all, (facts p known_p).least))
+      ∙ ap (λ (s : Ladder). s.values.low) held_state
 
   held_high : value_from held m ≡ value_of p.function p.v p.x m
-  unfolding state_of
-  held_high = ap (value_from held) (sym held_n) ∙ carried_high (sequence_in held) held.n held.low held.high ∙ ap (λ (s : Ladder). s.high) held_state
+  held_high = ap (value_from held) (sym held_n) ∙ carried_high (sequence_in held) held.held.n held.values.low held.values.high ∙ ap (λ (s : Ladder). s.values.high) held_state
 
   -- ---- a climb: both requests have the rungs of the forward branch
 
@@ -94,10 +86,9 @@ module _ (p q : Request) (known_p : Known p) (known_q : Known q)
         ∙ value_forward r (shifted q.v) (top_rung q.v) (forward_higher q.function q.x lower (facts q known_q) (omega (arith, rise.0, all)) forward)
 
     climbed_rung : (k : ℕ) → m ≤ k + 1 → value_from held k ≡ rung r k
-    unfolding state_of sequence_in
     climbed_rung k h =
         let e : m - 1 + (k + 1 - m) ≡ k = omega (arith, rise.1) in
-        carried_value_is (sequence_in held) held.n held.low held.high k ∙ rw (held_state, held_rungs) (rungs_on r m rise.1 (k + 1 - m)) ∙ ap (rung r) e
+        carried_value_is (sequence_in held) held.held.n held.values.low held.values.high k ∙ rw (held_state, held_rungs) (rungs_on r m rise.1 (k + 1 - m)) ∙ ap (rung r) e
 
   -- ---- at the same n u is the same too
 
@@ -141,13 +132,11 @@ module _ (p q : Request) (known_p : Known p) (known_q : Known q)
         go (inr climb) = climbed_rung climb k h ∙ rw (higher_rungs climb)
 
     pub carried_derivative_law : (k : ℕ) → m ≤ k → k < top_rung q.v → derivative_from held k ≡ derivative_of q.function q.v q.x k
-    unfolding state_of sequence_in
     carried_derivative_law k h b =
-        carried_derivative_is (sequence_in held) held.n held.low held.high k
+        carried_derivative_is (sequence_in held) held.held.n held.values.low held.values.high k
         ∙ rw (carried_value_law k (omega arith) (omega arith), carried_value_law (k + 1) (omega arith) (omega arith), held_state) (sym (derivative_by q k))
 
     pub carried_state : climbed_to held (top_rung q.v) ≡ state_for q (top_rung q.v)
-    unfolding state_of sequence_in
     carried_state =
         climbed_to_is held (top_rung q.v)
         ∙ rw (carried_value_law (top_rung q.v - 1) (omega (arith, not_below, (facts q known_q).least)) (omega arith), carried_value_law (top_rung q.v) (omega (arith, not_below)) (omega arith), held_state)

@@ -1,15 +1,10 @@
 -- One call of a list. Where the state holds the rungs finished of the last accepted request, what comes of the call is what is due, and then the state holds
 -- those of the last accepted request again.
-use mathlib.Core.Path.{◌≡◌, refl, sym, ap, ◌∙◌, subst}
-use mathlib.Core.Bool.{true, true≢false}
-use mathlib.Core.List.{List}
-use mathlib.Core.Logic.{◌⊎◌, inl, inr}
-use mathlib.Core.Option.{Option, some, none}
-use Prim.Native.Nat.{ℕ, ◌+◌, ◌-◌, ◌≤◌, ◌<◌}
-use native.Mathlib.Omega.{arith}
-use lib.Dec.{T}
-use lib.ListN.{length}
-use lib.Ieee.{Float, binary64, fits}
+use Rattle.std.proofs.Common.{◌≡◌, refl, sym, ap, ◌∙◌, subst, true, true≢false, List, ◌⊎◌, inl, inr, ℕ, ◌+◌, ◌-◌, ◌≤◌}
+use Rattle.std.proofs.Common.{◌<◌, arith, T, length, Float}
+use Rattle.std.proofs.Math.Option.{Option, some, none}
+use Rattle.std.specs.Float.{binary64}
+use Rattle.std.specs.Float.Ieee.{fits}
 use Rattle.order.specs.Order.{below, fraction_of, top_rung}
 use Rattle.slots.specs.Slots.{filled}
 use Rattle.slots.proofs.Filled.{filled_same}
@@ -18,7 +13,7 @@ use Rattle.ladder_machine.specs.Machine.{Request, Inputs, request, asked, refusa
 use Rattle.ladder_machine.specs.Held.{counts_empty, machine_of}
 use Rattle.ladder_machine.proofs.Laws.{machine_empty, accepted, Does, effect_means, next_by, held_stays, held_goes_on, held_starts}
 use Rattle.ladder_states.specs.declared.Ladder.{Ladder}
-use Rattle.ladder_states.specs.States.{state_of, held_in}
+use Rattle.ladder_states.specs.States.{held_in}
 use Rattle.ladder.specs.Ladder.{state_for, value_from, derivative_from, climbed_to, pair_then, given_on, Outcome, state_then, values_then, derivatives_then, requested}
 use Rattle.ladder.specs.Ladder.Open.{state_for_is, state_stays, state_goes_on, state_starts, values_stay, values_go_on, values_start, derivatives_stay, derivatives_go_on, derivatives_start, outcome_by_law, requested_is}
 use Rattle.ladder_lists.specs.Demand3.{ask, Long, tabled_value, tabled_derivative, state_due, pair_due, values_due, derivatives_due, due, later_request}
@@ -80,7 +75,6 @@ pub record GoesOn (p : Finished) (q : Request) (m n : ℕ) : Type 0 where
       ⊎ (may_climb p.request.function (below p.request.v) (bits_of p.request.x) (bits_of (fraction_of p.request.v)) p.n (top_rung q.v) ≡ true)
 
 pub goes_on_law : (p : Finished) (q : Request) (values derivatives m n : ℕ) → Does (held_in (state_for p.request p.n)) q values derivatives (goes_on m n) → GoesOn p q m n
-unfolding held_in state_of
 goes_on_law p q values derivatives m n d =
     let is = state_for_is p.request p.n in
     let from : p.n ≡ m = rw is at d.4 in

@@ -1,7 +1,6 @@
 -- 01's examples, from the values that the lower crates computed.
-use mathlib.Core.Path.{refl}
-use lib.ListN.{replicate}
-use lib.Ieee.{is_nan, of_bits}
+use Rattle.std.proofs.Common.{refl, replicate}
+use Rattle.std.specs.Float.Ieee.{is_nan, of_bits}
 use Rattle.floats.specs.Operations.{f0, f0_is, f1_is, f2_is}
 use Rattle.exponential.proofs.Laws.{exp_zero}
 use Rattle.gamma.specs.Constants.{pole_value_is}

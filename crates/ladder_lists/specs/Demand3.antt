@@ -1,6 +1,6 @@
 -- DEMAND 3 (the mission's third; 01, "The ladder"), as one statement: `Demand3`, at the end. Of the ladder it cites
 -- `requested`, which the contract of `ladder::request` equates with its reply and both tables, and `empty_state`, which
--- that of `ladder_states::empty` equates with its result. All else is in the documents' words: 01's machine
+-- that of `ladder_states::Ladder::empty` equates with its result. All else is in the documents' words: 01's machine
 -- (crates/ladder_machine/specs), the table call's `answer` and `table_after`, a step of the recurrence, the derivative
 -- formula, slots.
 use Rattle.std.specs.Prelude.{◌≡◌, List, [], ◌∷◌, map, ◌⊎◌, ℕ, ◌+◌, ◌-◌, ◌*◌, ◌≤◌, ◌<◌, true, false, T, length, take, drop, Float}
@@ -55,9 +55,9 @@ turns s (c ∷ cs) = record { call = c; left = called s c } ∷ turns (called s 
 abbrev pub left : Turn → Outcome
 left t = t.left
 
--- the fields of a state, its two values left out
+-- a state, its two values left out
 abbrev pub fields : Ladder → Held
-fields s = record { function = s.function; below = s.below; x = s.x; f = s.f; n = s.n }
+fields s = s.held
 
 -- order and argument of each request are f64s
 abbrev pub Number : Inputs → Type 0
@@ -73,7 +73,7 @@ gives s number pair count = record { state = s; refusal = number; pair = pair; w
 
 -- derivative k of a state's function, by the formula over two values
 abbrev pub derived : Ladder → ℕ → Float → Float → Float
-derived s k low high = derivative s.function s.below s.x s.f k low high
+derived s k low high = let r = s.held.sequence in derivative r.function r.below r.x r.f k low high
 
 -- ---- the table call for a request alone: a table for each request, long enough for each that 1 and 2 let pass,
 -- whatever it holds
@@ -94,13 +94,11 @@ tabled_derivative table q k = slot (tabled table q) (num q.v + k)
 -- the state that holds rungs 0 to n of a request: its parts, and the table call's values n − 1 and n
 unfoldable pub held_after : (Request → List Float) → Request → ℕ → Ladder
 held_after table q n = record {
-  function = q.function;
-  below = below q.v;
-  x = q.x;
-  f = fraction_of q.v;
-  n = n;
-  low = tabled_value table q (n - 1);
-  high = tabled_value table q n;
+  held = record {
+    sequence = record { function = q.function; below = below q.v; x = q.x; f = fraction_of q.v };
+    n = n;
+  };
+  values = record { low = tabled_value table q (n - 1); high = tabled_value table q n };
 }
 
 -- ---- what is due to a call, where s is the state given and the machine has spoken. What goes on from m to n has
@@ -236,16 +234,20 @@ pub record JustWritten (g : ℕ → Float) (from n : ℕ) (found left : List Flo
 pub record Climbed (s : Ladder) (m n : ℕ) (l d : List Float) (o : Outcome) : Type 0 where
   -- w(m − 1) and w(m) are the state's two values, and each later one is a step over the two before it
   pub w : ℕ → Float
-  pub low : w (m - 1) ≡ s.low
-  pub high : w m ≡ s.high
-  pub carried : (k : ℕ) → m < k → k ≤ n → w k ≡ step s.function s.below s.x s.f k (w (k - 2)) (w (k - 1))
+  pub low : w (m - 1) ≡ s.values.low
+  pub high : w m ≡ s.values.high
+  pub carried : (k : ℕ) → m < k → k ≤ n
+      → (let r = s.held.sequence in w k ≡ step r.function r.below r.x r.f k (w (k - 2)) (w (k - 1)))
   -- slot k of the values is w(k) for m < k ≤ n, and slot k of the derivatives the formula over w(k) and w(k + 1) for
   -- m ≤ k < n
   pub values : JustWritten w (m + 1) (n - m) l o.values
   pub derivatives : JustWritten (λ k. derived s k (w k) (w (k + 1))) m (n - m) d o.derivatives
   -- the state handed out holds w(n − 1) and w(n), and the pair is w(n − 1) with its formula
   pub state : o.given.state
-      ≡ record { function = s.function; below = s.below; x = s.x; f = s.f; n = n; low = w (n - 1); high = w n }
+      ≡ record {
+        held = record { sequence = s.held.sequence; n = n };
+        values = record { low = w (n - 1); high = w n };
+      }
   pub pair : o.given.pair ≡ some (w (n - 1), derived s (n - 1) (w (n - 1)) (w n))
   pub refusal : o.given.refusal ≡ 0
   pub written : o.given.written ≡ some (n - m)
@@ -256,11 +258,11 @@ pub record StateRight (table : Request → List Float) (s : Ladder) (q : Request
   pub refusal : (number : ℕ) → says s (ask q values derivatives) ≡ refuses number
       → requested s q values derivatives ≡ outcome (gives s number none none) values derivatives
   -- value n − 1 and the derivative formula over both values of the state; nothing changes
-  pub repeat : (n : ℕ) → says s (ask q values derivatives) ≡ repeats n → (s.n ≡ n) × (top_rung q.v ≡ n)
+  pub repeat : (n : ℕ) → says s (ask q values derivatives) ≡ repeats n → (s.held.n ≡ n) × (top_rung q.v ≡ n)
       × (requested s q values derivatives
-      ≡ outcome (gives s 0 (some (s.low, derived s (n - 1) s.low s.high)) (some 0)) values derivatives)
+      ≡ outcome (gives s 0 (some (s.values.low, derived s (n - 1) s.values.low s.values.high)) (some 0)) values derivatives)
   pub climb : (m n : ℕ) → says s (ask q values derivatives) ≡ climbs m n
-      → (s.n ≡ m) × (top_rung q.v ≡ n) × (2 ≤ m) × (m < n)
+      → (s.held.n ≡ m) × (top_rung q.v ≡ n) × (2 ≤ m) × (m < n)
       × Climbed s m n values derivatives (requested s q values derivatives)
   -- all rungs of the request are the table call's, and so are the two values held
   pub start_over : (n : ℕ) → Number (request q) → says s (ask q values derivatives) ≡ starts_over n

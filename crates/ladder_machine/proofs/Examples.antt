@@ -1,9 +1,5 @@
 -- Cases at the machine's limits, proved by computing them: one list, and one theorem over it.
-use mathlib.Core.Path.{◌≡◌, refl}
-use mathlib.Core.Bool.{true, false}
-use mathlib.Core.List.{List, [], ◌∷◌, map}
-use Prim.Native.Nat.{ℕ}
-use lib.Ieee.{Float}
+use Rattle.std.proofs.Common.{◌≡◌, refl, true, false, List, [], ◌∷◌, map, ℕ, Float}
 use Rattle.floats.specs.declared.Function.TheVariants.{D, «V»}
 use Rattle.branches.specs.Branches.{runs_forward}
 use Rattle.branches.proofs.Laws.{D_forward, V_forward, forward_runs}

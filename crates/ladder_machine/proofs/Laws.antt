@@ -1,15 +1,13 @@
 -- What the crates above may know of the machine beside the contracts.
-use mathlib.Core.Path.{◌≡◌, refl, sym, ap, ◌∙◌, subst}
-use mathlib.Core.Bool.{Bool, true, false, cond, beq, true≢false}
-use mathlib.Core.List.{List, [], ◌∷◌}
-use mathlib.Core.Logic.{◌⊎◌, inl, inr}
-use mathlib.Core.Option.{some, none}
-use Prim.Native.Nat.{ℕ, zero, suc, ◌+◌, ◌-◌, ◌≤◌, ◌<◌}
-use native.Mathlib.Omega.{arith}
-use borrow.Author.Tests.{eq-eqb, ne_eqb, eqb-true, eqb-false, le-ltb, ltb-true, ltb-false, leb-true}
-use lib.Dec.{T, eqb}
-use lib.Ieee.{Float, binary64, fits, is_nan, le, of_bits}
-use lib.Ieee.Bits.{of_bits-to_bits}
+use Rattle.std.proofs.Common.{◌≡◌, refl, sym, ap, ◌∙◌, subst, Bool, true, false, cond, true≢false, List, [], ◌∷◌, ◌⊎◌}
+use Rattle.std.proofs.Common.{inl, inr, ℕ, zero, suc, ◌+◌, ◌-◌, ◌≤◌, ◌<◌, arith, eq-eqb, ne_eqb, eqb-true, le-ltb}
+use Rattle.std.proofs.Common.{ltb-true, ltb-false, leb-true, T, eqb, Float}
+use Rattle.std.proofs.Math.Option.{some, none}
+use Rattle.std.specs.Float.{binary64}
+use Rattle.std.specs.Float.Ieee.{fits, is_nan, le, of_bits}
+use Rattle.std.specs.Bool.{beq}
+use borrow.Author.Tests.{eqb-false}
+use Rattle.std.specs.Float.Ieee.Bits.{of_bits-to_bits}
 use Rattle.floats.specs.Operations.{◌⊕◌, bits, whole, f1}
 use Rattle.floats.proofs.Booleans.{both, neither}
 use Rattle.signs.specs.Signs.{absolute}
@@ -28,7 +26,7 @@ use Rattle.ladder_machine.specs.Held.Open.{counts_empty_is, machine_of_is}
 
 module _ (h : Held) where
   -- a state that does not count as empty
-  pub not_empty : counts_empty h ≡ false → (1 ≤ h.n) × (h.n ≤ 1000) × (is_nan h.x ≡ false) × (is_nan h.f ≡ false) × (le f1 (absolute h.f) ≡ false)
+  pub not_empty : counts_empty h ≡ false → (1 ≤ h.n) × (h.n ≤ 1000) × (is_nan h.sequence.x ≡ false) × (is_nan h.sequence.f ≡ false) × (le f1 (absolute h.sequence.f) ≡ false)
   not_empty e =
       let p = neither (sym (counts_empty_is h) ∙ e) in
       let q = neither p.0 in
@@ -55,15 +53,15 @@ module _ (h : Held) where
       holds_none empty = true
       holds_none (holds fn s x f n) = false
 
-      go : (b : Bool) → cond b empty (holds h.function h.below (bits_of h.x) (bits_of h.f) h.n) ≡ empty → b ≡ true
+      go : (b : Bool) → cond b empty (holds h.sequence.function h.sequence.below (bits_of h.sequence.x) (bits_of h.sequence.f) h.n) ≡ empty → b ≡ true
       go true z = refl
       go false z = ap holds_none z
 
-  pub machine_holding : (q : Request) (n : ℕ) → counts_empty h ≡ false → h.function ≡ q.function → h.below ≡ below q.v → h.x ≡ q.x → h.f ≡ fraction_of q.v
-      → h.n ≡ n → machine_of h ≡ holding q n
-  machine_holding q n e a b c d g = rw (machine_of_is h, e, holding_is q n, a, b, c, d, g)
+  pub machine_holding : (q : Request) (n : ℕ) → counts_empty h ≡ false
+      → h ≡ record { sequence = record { function = q.function; below = below q.v; x = q.x; f = fraction_of q.v }; n = n } → machine_of h ≡ holding q n
+  machine_holding q n e is = rw (machine_of_is h, e, holding_is q n, is)
 
-  pub not_counted_empty : 1 ≤ h.n → h.n ≤ 1000 → is_nan h.x ≡ false → is_nan h.f ≡ false → le f1 (absolute h.f) ≡ false → counts_empty h ≡ false
+  pub not_counted_empty : 1 ≤ h.n → h.n ≤ 1000 → is_nan h.sequence.x ≡ false → is_nan h.sequence.f ≡ false → le f1 (absolute h.sequence.f) ≡ false → counts_empty h ≡ false
   not_counted_empty a b c d e = rw (counts_empty_is h, ne_eqb h.n 0 (λ z. omega arith), le-ltb 1000 h.n b, c, d, e)
 
 -- ---- what is not refused
@@ -116,10 +114,10 @@ module _ (fn : Function) (s : Bool) (x f : Float) (fn' : Function) (s' : Bool) (
 
 module _ (h : Held) (q : Request) (values derivatives : ℕ) where
   abbrev pub same_held : Bool
-  same_held = same_rungs h.function h.below (bits_of h.x) (bits_of h.f) q.function (below q.v) (bits_of q.x) (bits_of (fraction_of q.v))
+  same_held = same_rungs h.sequence.function h.sequence.below (bits_of h.sequence.x) (bits_of h.sequence.f) q.function (below q.v) (bits_of q.x) (bits_of (fraction_of q.v))
 
   abbrev pub climb_held : Bool
-  climb_held = may_climb h.function h.below (bits_of h.x) (bits_of h.f) h.n (top_rung q.v)
+  climb_held = may_climb h.sequence.function h.sequence.below (bits_of h.sequence.x) (bits_of h.sequence.f) h.n (top_rung q.v)
 
   abbrev pub Means : Verdict → Type 0
   Means (refuses k) = (refusal q values derivatives ≡ k) × (k ≡ 0 → ⊥)
@@ -141,10 +139,10 @@ module _ (h : Held) (q : Request) (values derivatives : ℕ) where
   case_is = case_of_is (machine_of h) q ∙ rw (machine_of_is h) (go (counts_empty h))
     where
       go : (b : Bool)
-          → case_by (cond b empty (holds h.function h.below (bits_of h.x) (bits_of h.f) h.n)) q.function (below q.v) (bits_of q.x) (bits_of (fraction_of q.v)) (top_rung q.v)
+          → case_by (cond b empty (holds h.sequence.function h.sequence.below (bits_of h.sequence.x) (bits_of h.sequence.f) h.n)) q.function (below q.v) (bits_of q.x) (bits_of (fraction_of q.v)) (top_rung q.v)
           ≡ cond b (starts_over (top_rung q.v)) (cond same_held (cond (eqb h.n (top_rung q.v)) (repeats (top_rung q.v)) (cond climb_held (climbs h.n (top_rung q.v)) (starts_over (top_rung q.v)))) (starts_over (top_rung q.v)))
       go true = case_by_empty q.function (below q.v) (bits_of q.x) (bits_of (fraction_of q.v)) (top_rung q.v)
-      go false = case_by_holds h.function h.below (bits_of h.x) (bits_of h.f) h.n q.function (below q.v) (bits_of q.x) (bits_of (fraction_of q.v)) (top_rung q.v)
+      go false = case_by_holds h.sequence.function h.sequence.below (bits_of h.sequence.x) (bits_of h.sequence.f) h.n q.function (below q.v) (bits_of q.x) (bits_of (fraction_of q.v)) (top_rung q.v)
 
   -- WHAT THE MACHINE SAYS
   pub verdict_means : Means (verdict (machine_of h) (asked q values derivatives))
@@ -174,11 +172,15 @@ module _ (h : Held) (q : Request) (values derivatives : ℕ) where
       go (starts_over n) m = (m.0, m.1)
 
   -- a state with the same parts and the new n is the machine that holds it
-  pub next_state : (m n : ℕ) (h' : Held) → Does (goes_on m n) → counts_empty h' ≡ false → h'.function ≡ h.function → h'.below ≡ h.below → h'.x ≡ h.x
-      → h'.f ≡ h.f → h'.n ≡ n → machine_of h' ≡ holding q n
+  pub next_state : (m n : ℕ) (h' : Held) → Does (goes_on m n) → counts_empty h' ≡ false → h'.sequence.function ≡ h.sequence.function
+      → h'.sequence.below ≡ h.sequence.below → h'.sequence.x ≡ h.sequence.x → h'.sequence.f ≡ h.sequence.f → h'.n ≡ n → machine_of h' ≡ holding q n
   next_state m n h' d e a b c f g =
-      let r = same_record h.function h.below (bits_of h.x) (bits_of h.f) q.function (below q.v) (bits_of q.x) (bits_of (fraction_of q.v)) d.3 in
+      let r = same_record h.sequence.function h.sequence.below (bits_of h.sequence.x) (bits_of h.sequence.f) q.function (below q.v) (bits_of q.x) (bits_of (fraction_of q.v)) d.3 in
       rw (machine_of_is h', e, holding_is q n, a, b, c, f, g, r.0, r.1, r.2, r.3)
+
+  -- the same by one equation
+  pub next_same_sequence : (m n : ℕ) (h' : Held) → Does (goes_on m n) → counts_empty h' ≡ false → h' ≡ record { sequence = h.sequence; n = n } → machine_of h' ≡ holding q n
+  next_same_sequence m n h' d e is = next_state m n h' d e (rw is) (rw is) (rw is) (rw is) (rw is)
 
 -- ---- a climb: to a higher n, from 2 or more, on a forward branch
 

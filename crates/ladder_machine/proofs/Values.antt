@@ -1,12 +1,7 @@
 -- 01's example P11, the machine's part: D, x = 0, v = 2, 4, 4, 2; and the least n that a climb goes on from, by v = 0,
 -- 1, 2. The parts of the orders are computed in `order`.
-use mathlib.Core.Path.{◌≡◌, refl, sym, ◌∙◌}
-use mathlib.Core.Bool.{false, true, ◌&&◌, cond}
-use mathlib.Core.List.{[], ◌∷◌}
-use Prim.Native.Nat.{ℕ}
-use borrow.Author.Tests.{eq-eqb}
-use lib.Dec.{eqb, leb, ltb}
-use lib.Ieee.{Float, is_nan, of_bits}
+use Rattle.std.proofs.Common.{◌≡◌, refl, sym, ◌∙◌, false, true, ◌&&◌, cond, [], ◌∷◌, ℕ, eq-eqb, eqb, leb, ltb, Float}
+use Rattle.std.specs.Float.Ieee.{is_nan, of_bits}
 use Rattle.floats.specs.Operations.{◌⊕◌, bits, whole, decimal, f0, f1}
 use Rattle.order.specs.Order.{top_rung}
 use Rattle.order.specs.Order.Examples.{parts}

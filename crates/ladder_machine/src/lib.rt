@@ -9,38 +9,34 @@ ghost use Rattle.std.specs.Prelude.{◌≡◌};
 ghost use Rattle.ladder_machine.specs.Machine.{asks, asked, too_short, verdict};
 ghost use Rattle.ladder_machine.specs.Held.{machine_of, verdict_of};
 
+use answer::Refusal;
 use cases::case_of;
 use floats::Function;
-use order::{Rung, Size};
+use order::{Rung, Sequence, Size};
 
-// A ladder's fields, its two values left out.
+// What a ladder holds beside its two values: rungs 0 to n of a sequence. It counts as empty where n is 0 or above 1000,
+// x or f is NaN, or the size of f is 1 or more.
 #[derive(Clone, Copy)]
 pub struct Held {
-    pub function: Function,
-    pub below: bool,
-    pub x: f64,
-    pub f: f64,
+    pub sequence: Sequence,
     pub n: Rung,
 }
 
-// What comes of a request: the number of its refusal; or the case, with the new n, and for a climb the n held before.
+// What an accepted request is, with the n that is held then.
 #[derive(Clone, Copy)]
-pub enum Judgement {
-    Refused(u8),
+pub enum Case {
     Repeat(Rung),
-    Climb(Rung, Rung),
+    Climb { from: Rung, to: Rung },
     StartOver(Rung),
 }
 
 // Whether a value table or a derivative table of these lengths is too short for rungs 0 to n.
+#[tactic(auto, using(crate::proofs::Tests::tests))]
 fn too_short(n: Size, values: usize, derivatives: usize) -> bool
     ensures { result ≡ too_short n values derivatives }
 {
     let top = n as usize;
-    if values < top + 1 {
-        return true;
-    }
-    derivatives < top
+    values < top + 1 || derivatives < top
 }
 
 // The judgement of a request, by what is held and the lengths of the two tables.
@@ -51,15 +47,10 @@ pub fn judge(
     x: f64,
     values: usize,
     derivatives: usize,
-) -> Judgement
+) -> Result<Case, Refusal>
     ensures { verdict_of result ≡ verdict (machine_of held) (asked (asks function v x) values derivatives) }
 {
-    let o = order::split(v);
-    let n = o.n;
-    let short = too_short(n, values, derivatives);
-    let number = table_refusals::refusal_by(v, x, short);
-    if number != 0 {
-        return Judgement::Refused(number);
-    }
-    case_of(held, function, o.below, x, o.f, n)
+    let split = order::split(v);
+    table_refusals::check(v, x, too_short(split.n, values, derivatives))?;
+    Ok(case_of(held, split.sequence(function, x), split.n))
 }

@@ -5,12 +5,12 @@ use Rattle.ladder_reader.specs.declared.Column.{Column}
 use Rattle.ladder_reader.specs.declared.Column.TheVariants.{Values, Derivatives}
 use Rattle.ladder_reader.specs.Columns.{named, first_slots}
 
-unfoldable pub column_of : ℕ → Option Column
+abbrev pub column_of : ℕ → Option Column
 column_of which = cond (eqb which 1) (some Values) (cond (eqb which 2) (some Derivatives) none)
 
-unfoldable pub part_of : Option Column → ℕ → List Float → List Float → List Float
+abbrev pub part_of : Option Column → ℕ → List Float → List Float → List Float
 part_of (some column) c values derivatives = first_slots c (named column values derivatives)
 part_of none c values derivatives = []
 
-unfoldable pub column_in : ℕ → ℕ → List Float → List Float → List Float
+abbrev pub column_in : ℕ → ℕ → List Float → List Float → List Float
 column_in which c values derivatives = part_of (column_of which) c values derivatives

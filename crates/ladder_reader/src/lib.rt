@@ -1,5 +1,5 @@
-// The column reader: a part of one of the two tables that the caller lends, of any lengths. Each public function answers
-// every input.
+// The column reader: a part of one of the two tables that the caller lends, of any lengths. Each public function
+// answers every input.
 
 #![tactic(auto)]
 
@@ -8,13 +8,13 @@ mod numbers;
 ghost use Rattle.std.specs.Prelude.{◌≡◌};
 ghost use Rattle.ladder_reader.specs.Columns.{named, first_slots};
 
-pub use numbers::column_length;
+pub use numbers::{UnknownColumn, column_length};
 
-// One of the two tables.
-#[derive(Clone, Copy)]
+// One of the two tables. The numbers are those of the C interface.
+#[derive(Clone, Copy, PartialEq, Eq)]
 pub enum Column {
-    Values,
-    Derivatives,
+    Values = 1,
+    Derivatives = 2,
 }
 
 // The first c slots of the table named, or none where it has fewer.
@@ -26,18 +26,9 @@ pub fn read_column<'a>(
 ) -> &'a [f64]
     ensures { result.now ≡ first_slots c (named which values.now derivatives.now) }
 {
-    match which {
-        Column::Values => first_slots(values, c),
-        Column::Derivatives => first_slots(derivatives, c),
-    }
-}
-
-// The first c slots, or none where there are fewer.
-fn first_slots<'a>(t: &'a [f64], c: usize) -> &'a [f64]
-    ensures { result.now ≡ first_slots c t.now }
-{
-    if c <= t.len() {
-        return &t[..c];
-    }
-    &t[..0]
+    let table = match which {
+        Column::Values => values,
+        Column::Derivatives => derivatives,
+    };
+    table.get(..c).unwrap_or(&[])
 }

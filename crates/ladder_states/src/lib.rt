@@ -1,4 +1,4 @@
-// The state of a ladder, made and taken apart.
+// The state of a ladder.
 
 #![tactic(auto)]
 
@@ -8,76 +8,46 @@ ghost use Rattle.ladder_states.specs.States.{state_of, sequence_in, empty_state,
 
 use floats::Function;
 use ladder_machine::Held;
-use order::Rung;
-use rungs::Sequence;
+use order::{Adjacent, Rung, Sequence};
 
-// The state: function, side (v < 0 or not), argument, fraction of the order, n, and the values of rungs n - 1 and n. It
-// counts as empty where n is 0 or above 1000, x or f is NaN, or the size of f is 1 or more.
+// What is held, and the values of rungs n - 1 and n. It counts as empty where what is held does:
+// no Option, since any state may come in from C.
 #[derive(Clone, Copy)]
 pub struct Ladder {
-    pub function: Function,
-    pub below: bool,
-    pub x: f64,
-    pub f: f64,
-    pub n: Rung,
-    pub low: f64,
-    pub high: f64,
+    pub held: Held,
+    pub values: Adjacent,
 }
 
-// The state that holds rungs 0 to n of a sequence; low and high are the values of rungs n - 1 and n. Every state is
-// made here.
-pub fn state_of(sequence: Sequence, n: Rung, low: f64, high: f64) -> Ladder
-    ensures { result ≡ state_of sequence n low high }
-{
-    let function = sequence.function;
-    Ladder {
-        function: function,
-        below: sequence.below,
-        x: sequence.x,
-        f: sequence.f,
-        n: n,
-        low: low,
-        high: high,
+impl Ladder {
+    // The state that holds rungs 0 to n of a sequence; the values are those of rungs n - 1 and n. Every state is made
+    // here.
+    pub fn new(sequence: Sequence, n: Rung, values: Adjacent) -> Ladder
+        ensures state { result ≡ state_of sequence n values.low values.high }
+        ensures sequence { sequence_in result ≡ sequence }
+        ensures n { (held_in result).n ≡ n }
+    {
+        Ladder {
+            held: Held { sequence, n },
+            values,
+        }
     }
-}
 
-// Which rungs a state holds.
-pub fn sequence_in(s: Ladder) -> Sequence
-    ensures { result ≡ sequence_in s }
-{
-    let function = s.function;
-    Sequence {
-        function: function,
-        below: s.below,
-        x: s.x,
-        f: s.f,
-    }
-}
-
-// A ladder that holds nothing.
-pub fn empty() -> Ladder
-    ensures state { result ≡ empty_state }
-    ensures empty { counts_empty (held_in result) ≡ true }
-{
-    let nothing = Sequence {
-        function: Function::D,
-        below: false,
-        x: 0.0,
-        f: 0.0,
-    };
-    state_of(nothing, 0, 0.0, 0.0)
-}
-
-// The fields of a state, its two values left out.
-pub fn held_in(s: Ladder) -> Held
-    ensures { result ≡ held_in s }
-{
-    let function = s.function;
-    Held {
-        function: function,
-        below: s.below,
-        x: s.x,
-        f: s.f,
-        n: s.n,
+    // A ladder that holds nothing.
+    #[tactic(auto, using(crate::specs::States::Open::empty_state_is, crate::proofs::Laws::nothing_held))]
+    pub fn empty() -> Ladder
+        ensures state { result ≡ empty_state }
+        ensures empty { counts_empty (held_in result) ≡ true }
+    {
+        let sequence = Sequence {
+            function: Function::D,
+            below: false,
+            x: 0.0,
+            f: 0.0,
+        };
+        let values = Adjacent {
+            low: 0.0,
+            high: 0.0,
+        };
+        Ladder::new(sequence, 0, values)
     }
 }

@@ -1,16 +1,13 @@
 -- What the crates above may know of ln and of powers beside their contracts.
-use mathlib.Core.Path.{◌≡◌, refl, ap, ◌∙◌}
-use mathlib.Core.List.{List}
-use mathlib.Core.Bool.{false}
-use Prim.Native.Nat.{ℕ}
-use lib.ListN.{get_or}
-use lib.Ieee.{Float, nan, inf, neg, mul, eq, of_bits}
+use Rattle.std.proofs.Common.{◌≡◌, refl, ap, ◌∙◌, List, false, ℕ, get_or}
+use Rattle.std.specs.Float.{Float, nan, inf}
+use Rattle.std.specs.Float.Ieee.{neg, mul, eq, of_bits}
 use Rattle.floats.specs.Operations.{◌⊗◌, bits, decimal, f0, f1}
 use Rattle.exponential.specs.Exponential.{exp}
-use Rattle.exponential.proofs.Laws as exponential
 use Rattle.logarithm.specs.Logarithm.{ln, power}
 use Rattle.logarithm.specs.Logarithm.Open.{power_is}
 use Rattle.logarithm.specs.Logarithm.Examples.{computed, values, examples_hold}
+use Rattle.exponential.proofs.Laws as exponential
 
 -- ---- values from the list of examples, by their place in it
 

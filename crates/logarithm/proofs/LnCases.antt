@@ -1,17 +1,16 @@
 -- What `ln` is, by the tests that the code makes.
-use mathlib.Core.Path.{◌≡◌, sym, ap, ◌∙◌, subst}
-use mathlib.Core.Bool.{Bool, true, false, not, ◌||◌, beq}
-use Prim.Native.Nat.{ℕ, zero, suc, ◌+◌, ◌*◌, ◌^◌, ◌<◌, ◌≤◌}
-use native.Mathlib.Nat.{mul-pos, zero-lt-suc}
-use native.Mathlib.Omega.{arith}
-use borrow.Author.Tests.{ltb-true, ltb-false}
-use lib.Dec.{T, eqb, eqb→eq}
-use lib.IntN.{ℤ, pos, ◌+ℤ◌, ◌-ℤ◌, neg_ℤ, +ℤ_assoc, +ℤ_comm}
-use lib.Ieee.{Float, nan, inf, fin, binary64, up, down, lt, eq, to_bits, of_bits, of_int, fits, is_nan}
-use lib.Ieee.Fits.{up_pos, and_l}
+use Rattle.std.proofs.Common.{◌≡◌, refl, to_z-of_z, ◌%◌, ◌/◌, sym, ap, ◌∙◌, subst, Bool, true, false, not, ◌||◌, ℕ}
+use Rattle.std.proofs.Common.{zero, suc, ◌+◌, ◌*◌, ◌^◌, ◌<◌, ◌≤◌, mul-pos, zero-lt-suc, arith, ltb-true, ltb-false, T}
+use Rattle.std.proofs.Common.{eqb, eqb→eq, ℤ, pos, ◌+ℤ◌, ◌-ℤ◌, neg_ℤ}
+use Rattle.std.specs.Float.{Float, nan, inf, fin, binary64}
+use Rattle.std.specs.Float.Ieee.{up, down, lt, eq, to_bits, of_bits, of_int, fits, is_nan, nan_bits}
+use Rattle.std.proofs.Math.Bool.{beq}
+use Rattle.std.proofs.Math.IntN.{+ℤ_assoc, +ℤ_comm}
+use Rattle.std.specs.Float.Ieee.Fits.{up_pos, and_l}
 use Rattle.floats.specs.Operations.{f0}
+use Rattle.signs.proofs.Signs.{infinity_is, negative_infinity_is, nan_is}
 use Rattle.logarithm.specs.Logarithm.{ln}
-use Rattle.logarithm.specs.Logarithm.Open.{ln_nan, ln_infinite, ln_zero, ln_negative, ln_positive}
+use Rattle.logarithm.specs.Logarithm.Open.{ln_of_parts_is, ln_nan, ln_infinite, ln_zero, ln_negative, ln_positive}
 use Rattle.logarithm.specs.LnSteps.{ln_of_pattern}
 use Rattle.logarithm.proofs.Significand.{normal, subnormal}
 
@@ -23,10 +22,10 @@ next_exponent a b =
 above_zero : (n : ℕ) (e : ℤ) → 0 < suc n * up e
 above_zero n e = mul-pos (zero-lt-suc n) (up_pos e)
 
-pub data Finite : Float → Type 0 where
+data Finite : Float → Type 0 where
   finite : (n : ℕ) (e : ℤ) → Finite (fin false (suc n) e)
 
-pub is_finite : (b : Float) → lt f0 b ≡ true → lt b (inf false) ≡ true → Finite b
+is_finite : (b : Float) → lt f0 b ≡ true → lt b (inf false) ≡ true → Finite b
 unfolding lt of_bits
 is_finite nan p q = absurd (subst T (sym p) tt)
 is_finite (inf true) p q = absurd (subst T (sym p) tt)
@@ -35,13 +34,23 @@ is_finite (fin true n e) p q = absurd (subst T (sym p) tt)
 is_finite (fin false zero e) p q = let k = ltb-true (0 * down e) (0 * up e * 1) p in absurd (omega arith)
 is_finite (fin false (suc n) e) p q = finite n e
 
-pub at_normal : (b : Float) → Finite b → T (fits binary64 b) → 2 ^ 52 ≤ to_bits binary64 b → ln_of_pattern (to_bits binary64 b) 1023 ≡ ln b
+at_normal : (b : Float) → Finite b → T (fits binary64 b) → 2 ^ 52 ≤ to_bits binary64 b → ln_of_pattern (to_bits binary64 b) 1023 ≡ ln b
 at_normal b (finite n e) t u = let p = normal n e t u in rw (p.significand, p.exponent, ln_positive n e)
 
-pub at_subnormal : (b : Float) → Finite b → T (fits binary64 b) → to_bits binary64 b < 2 ^ 52
+at_subnormal : (b : Float) → Finite b → T (fits binary64 b) → to_bits binary64 b < 2 ^ 52
     → T (not (is_nan (of_int binary64 (pos (to_bits binary64 b))))) × (ln_of_pattern (to_bits binary64 (of_int binary64 (pos (to_bits binary64 b)))) 2097 ≡ ln b)
 unfolding is_nan
 at_subnormal b (finite n e) t u = let s = subnormal n e t u in rw s.is (tt, rw (s.has.significand, s.has.exponent, ln_positive n e))
+
+module _ (b : Float) (above : lt f0 b ≡ true) (below : lt b (inf false) ≡ true) (held : T (fits binary64 b)) where
+  pub ln_normal : 2 ^ 52 ≤ to_bits binary64 b → ln_of_pattern (to_bits binary64 b) 1023 ≡ ln b
+  ln_normal = at_normal b (is_finite b above below) held
+
+  pub subnormal_number : to_bits binary64 b < 2 ^ 52 → T (not (is_nan (of_int binary64 (pos (to_bits binary64 b)))))
+  subnormal_number h = (at_subnormal b (is_finite b above below) held h).0
+
+  pub ln_subnormal : to_bits binary64 b < 2 ^ 52 → ln_of_pattern (to_bits binary64 (of_int binary64 (pos (to_bits binary64 b)))) 2097 ≡ ln b
+  ln_subnormal h = (at_subnormal b (is_finite b above below) held h).1
 
 pub at_infinity : (b : Float) → lt f0 b ≡ true → lt b (inf false) ≡ false → b ≡ ln b
 unfolding lt of_bits
@@ -77,3 +86,15 @@ at_rest (fin false (suc n) e) p q =
     let k = ltb-false (0 * down e) (suc n * up e * 1) p in
     let h = above_zero n e in
     absurd (omega arith)
+
+-- the digits of a pattern with the field 1023 are no NaN's
+pub significand_number : (u : ℕ) → T (not (nan_bits binary64 (u % 4503599627370496 + 4607182418800017408)))
+unfolding nan_bits
+significand_number u =
+    let field : (u % 4503599627370496 + 4607182418800017408) % 9223372036854775808 / 4503599627370496 ≡ 1023 = omega arith in
+    rw field tt
+
+-- what `ln` and the functions under it take
+pub ruleset ln_laws = (infinity_is, negative_infinity_is, nan_is, ln_normal, subnormal_number, ln_subnormal, at_infinity, at_zero, at_rest)
+
+pub ruleset parts_laws = (ln_of_parts_is, next_exponent, significand_number, to_z-of_z)

@@ -1,20 +1,19 @@
 -- The significand and the exponent of a float above 0, by its bit pattern. N * 2 ^ e has the `size N` digits of N and is N * 2 ^ E units of 2 ^ -1074.
 -- Its pattern has the 53 digits N * 2 ^ (53 - size N), and its field says how many places lie below them.
-use mathlib.Core.Path.{◌≡◌, refl, sym, ap, ◌∙◌, subst}
-use mathlib.Core.Bool.{Bool, true, false, ◌&&◌}
-use Prim.Native.Nat.{ℕ, zero, suc, ◌+◌, ◌-◌, ◌*◌, ◌/◌, ◌%◌, ◌^◌, ◌<◌, ◌≤◌}
-use native.Mathlib.Nat.{lt_of_lt_of_le, lt_of_le_of_lt, lt_of_not-le, not-le_of_lt, le_trans, le_of_lt}
-use native.Mathlib.Nat.{mul-le-mul_right, mul-le-mul_left, mul_assoc, div-one, mul-one, zero-add}
-use native.Mathlib.Omega.{arith}
-use borrow.Author.Tests.{ltb-true, ltb-false, leb-true, leb-false, lt-ltb, le-ltb}
-use lib.Dec.{T, ltb, leb, eqb, lt→ltb, le→leb, ltb→lt, leb→le, eqb→eq, lit<, lit≤}
-use lib.IntN.{ℤ, pos, negsuc, neg_ℤ, sub_ℕ, ◌+ℤ◌, ◌-ℤ◌}
-use lib.Pow.{pow_pos, pow_mono, pow-add, shl_lt, shl-shr}
-use lib.Ieee.{Float, fin, binary64, size, up, down, to_bits, of_bits, of_int, fits}
-use lib.Ieee.Bits.{of_bits-to_bits}
-use lib.Ieee.Fits.{and_i, and_l, and_r, eq→eqb, of_int-fits}
-use lib.Ieee.Back.{whole_unique}
-use lib.Ieee.Digits.{size-lt, size-le, size_reaches}
+use Rattle.std.proofs.Common.{◌≡◌, refl, sym, ap, ◌∙◌, subst, Bool, true, false, ◌&&◌, ℕ, zero, suc, ◌+◌, ◌-◌, ◌*◌, ◌/◌}
+use Rattle.std.proofs.Common.{◌%◌, ◌^◌, ◌<◌, ◌≤◌, lt_of_lt_of_le, lt_of_le_of_lt, lt_of_not-le, not-le_of_lt, le_trans}
+use Rattle.std.proofs.Common.{le_of_lt, mul-le-mul_right, mul-le-mul_left, mul_assoc, div-one, mul-one, zero-add, arith}
+use Rattle.std.proofs.Common.{ltb-true, ltb-false, leb-true, leb-false, lt-ltb, le-ltb, T, ltb, leb, eqb, lt→ltb}
+use Rattle.std.proofs.Common.{le→leb, ltb→lt, leb→le, eqb→eq, lit<, lit≤, ℤ, pos, negsuc, neg_ℤ, ◌+ℤ◌, ◌-ℤ◌, pow_pos}
+use Rattle.std.proofs.Common.{pow_mono, pow-add, shl_lt}
+use Rattle.std.specs.Float.{Float, fin, binary64}
+use Rattle.std.specs.Float.Ieee.{size, up, down, to_bits, of_bits, of_int, fits}
+use Rattle.std.proofs.Math.IntN.{sub_ℕ}
+use Rattle.std.proofs.Math.Pow.{shl-shr}
+use Rattle.std.specs.Float.Ieee.Bits.{of_bits-to_bits}
+use Rattle.std.specs.Float.Ieee.Fits.{and_i, and_l, and_r, eq→eqb, of_int-fits}
+use Rattle.std.specs.Float.Ieee.Back.{whole_unique}
+use Rattle.std.specs.Float.Ieee.Digits.{size-lt, size-le, size_reaches}
 use Rattle.floats.proofs.Values.{of_int_pos}
 
 pow_lt_back : (i j : ℕ) → 2 ^ i < 2 ^ j → i < j

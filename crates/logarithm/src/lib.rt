@@ -13,10 +13,8 @@ fn ln_sum(z: f64) -> f64
     ensures { result ≡ ln_sum z }
 {
     let mut a = 0.0;
-    let mut j: u32 = 13;
-    while j > 0 {
-        j -= 1;
-        a = 1.0 / ((2 * j + 1) as f64) + z * a;
+    for j in (0_u32..13).rev() {
+        a = 1.0 / f64::from(2 * j + 1) + z * a;
     }
     a
 }
@@ -33,21 +31,24 @@ fn ln_near_one(m: f64, e: f64) -> f64
 fn exponent(field: u16, bias: u16) -> i32
     ensures { result ≡ pos field -ℤ pos bias }
 {
-    field as i32 - bias as i32
+    i32::from(field) - i32::from(bias)
 }
 
 // ln (m 2^(field - bias)), for 1 ≤ m < 2.
+#[tactic(auto, using(crate::proofs::LnCases::parts_laws))]
 fn ln_of_parts(m: f64, field: u16, bias: u16) -> f64
     requires { field < 65535 }
     ensures { result ≡ ln_of_parts m (pos field -ℤ pos bias) }
 {
     if m >= 1.4142135623730951 {
-        return ln_near_one(m * 0.5, exponent(field + 1, bias) as f64);
+        ln_near_one(m * 0.5, f64::from(exponent(field + 1, bias)))
+    } else {
+        ln_near_one(m, f64::from(exponent(field, bias)))
     }
-    ln_near_one(m, exponent(field, bias) as f64)
 }
 
 // ln of the number with the pattern u, divided by 2^(bias - 1023).
+#[tactic(auto, using(crate::proofs::LnCases::parts_laws))]
 fn ln_of_pattern(u: u64, bias: u16) -> f64
     ensures { result ≡ ln_of_pattern u bias }
 {
@@ -59,31 +60,30 @@ fn ln_of_pattern(u: u64, bias: u16) -> f64
 }
 
 // The natural logarithm of b. A subnormal's pattern is a whole number of the smallest values, 2^-1074 each.
+#[tactic(auto, using(crate::proofs::LnCases::ln_laws))]
 pub fn ln(b: f64) -> f64
     ensures { result ≡ ln b }
 {
-    if b > 0.0 {
-        if b < 1.0 / 0.0 {
-            let u = f64::to_bits(b);
-            if u < 4503599627370496 {
-                return ln_of_pattern(f64::to_bits(u as f64), 2097);
-            }
-            return ln_of_pattern(u, 1023);
+    if 0.0 < b && b < f64::INFINITY {
+        let u = b.to_bits();
+        if u < 4503599627370496 {
+            ln_of_pattern((u as f64).to_bits(), 2097)
+        } else {
+            ln_of_pattern(u, 1023)
         }
-        return b;
+    } else if b > 0.0 {
+        b
+    } else if b == 0.0 {
+        f64::NEG_INFINITY
+    } else {
+        f64::NAN
     }
-    if b == 0.0 {
-        return -1.0 / 0.0;
-    }
-    0.0 / 0.0
 }
 
 // b to the power p, and 1 for p = 0 whatever b is.
+#[tactic(auto, using(crate::specs::Logarithm::Open::power_is))]
 pub fn pow(b: f64, p: f64) -> f64
     ensures { result ≡ power b p }
 {
-    if p == 0.0 {
-        return 1.0;
-    }
-    exp(p * ln(b))
+    if p == 0.0 { 1.0 } else { exp(p * ln(b)) }
 }

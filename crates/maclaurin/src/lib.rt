@@ -2,50 +2,42 @@
 
 #![tactic(auto)]
 
-ghost use Rattle.std.specs.Prelude.{◌≡◌};
+ghost use Rattle.std.specs.Prelude.{◌≡◌, cond};
+ghost use Rattle.std.specs.List.{list_any};
+ghost use Rattle.std.specs.Float.Ieee.{is_nan};
+ghost use Rattle.signs.specs.Signs.{infinite};
 ghost use Rattle.answer.specs.Answer.{refusal_of, pair_of};
-ghost use Rattle.maclaurin.specs.Maclaurin.{any_of, refusal, answer};
+ghost use Rattle.maclaurin.specs.Maclaurin.{refusal, answer};
 
-use answer::Answer;
+use answer::{Answer, Refusal};
 use maclaurin_series::pb_maclaurin;
 use signs::{is_infinite, is_nan};
 
-// Whether one of five is true.
-fn any_of(a: bool, b: bool, c: bool, d: bool, e: bool) -> bool
-    ensures { result ≡ any_of a b c d e }
+// Apart, since with both chains inside `check` the goals about `any` stay open.
+fn any_nan(inputs: &[f64]) -> bool
+    ensures { result ≡ list_any is_nan inputs.now }
 {
-    if a {
-        return true;
-    }
-    if b {
-        return true;
-    }
-    if c {
-        return true;
-    }
-    if d {
-        return true;
-    }
-    e
+    inputs.iter().any(|y| is_nan(*y))
 }
 
-// The number of the refusal, 0 where there is none: 1 where an input is NaN, else 5 where one is infinite.
-fn refusal(a: f64, x: f64, c0: f64, c1: f64, e: f64) -> u8
-    ensures { result ≡ refusal a x c0 c1 e }
+fn any_infinite(inputs: &[f64]) -> bool
+    ensures { result ≡ list_any infinite inputs.now }
 {
-    if any_of(is_nan(a), is_nan(x), is_nan(c0), is_nan(c1), is_nan(e)) {
-        return 1;
+    inputs.iter().any(|y| is_infinite(*y))
+}
+
+// Whether the request is refused: an input is NaN, or one is infinite.
+fn check(inputs: &[f64]) -> Result<(), Refusal>
+    ensures { refusal_of result
+        ≡ cond (list_any is_nan inputs.now) 1 (cond (list_any infinite inputs.now) 5 0) }
+{
+    if any_nan(inputs) {
+        return Err(Refusal::NotANumber);
     }
-    if any_of(
-        is_infinite(a),
-        is_infinite(x),
-        is_infinite(c0),
-        is_infinite(c1),
-        is_infinite(e),
-    ) {
-        return 5;
+    if any_infinite(inputs) {
+        return Err(Refusal::Infinite);
     }
-    0
+    Ok(())
 }
 
 // The request.
@@ -53,10 +45,6 @@ pub fn maclaurin(a: f64, x: f64, c0: f64, c1: f64, e: f64) -> Answer
     ensures number { refusal_of result ≡ refusal a x c0 c1 e }
     ensures pair { pair_of result ≡ answer a x c0 c1 e }
 {
-    let number = refusal(a, x, c0, c1, e);
-    if number != 0 {
-        return Answer::Refused(number);
-    }
-    let w = pb_maclaurin(a, x, c0, c1, e);
-    Answer::Pair(w.first, w.second)
+    check(&[a, x, c0, c1, e])?;
+    Ok(pb_maclaurin(a, x, c0, c1, e))
 }

@@ -1,7 +1,6 @@
 -- Pairs of the Maclaurin series by computing, at exponents where e^0 is taken: mul_exp's law gives the factor 1.
-use mathlib.Core.Path.{◌≡◌, refl, ◌∙◌}
-use mathlib.Core.Bool.{false}
-use lib.Ieee.{Float, add, sub, mul, lt, of_bits}
+use Rattle.std.proofs.Common.{◌≡◌, refl, ◌∙◌, false, Float}
+use Rattle.std.specs.Float.Ieee.{add, sub, mul, lt, of_bits}
 use Rattle.floats.specs.Operations.{◌⊕◌, ◌⊖◌, ◌⊗◌, bits, decimal, f0, f½, f1, ln2}
 use Rattle.signs.specs.Signs.{absolute}
 use Rattle.mul_exp.specs.MulExp.{mul_exp}

@@ -1,8 +1,7 @@
 -- What are mirror images and what are none, by computing.
-use mathlib.Core.Path.{◌≡◌, refl}
-use mathlib.Core.Bool.{Bool, true, false, ◌||◌}
-use lib.Dec.{T, eqb, eqb_refl}
-use lib.Ieee.{Float, nan, inf, binary64, neg, eq, is_nan, of_bits, to_bits}
+use Rattle.std.proofs.Common.{◌≡◌, refl, Bool, true, false, ◌||◌, T, eqb, Float}
+use Rattle.std.proofs.Math.Dec.{eqb_refl}
+use Rattle.std.specs.Float.Ieee.{nan, inf, binary64, neg, eq, is_nan, of_bits, to_bits}
 use Rattle.floats.specs.Operations.{bits, f0, f½, f1}
 use Rattle.floats.proofs.Booleans.{or_l, or_r}
 use Rattle.mirror_images.specs.Images.{signed, both_nan, both_zero, MirrorOf, nans, zeros, exact, odd}

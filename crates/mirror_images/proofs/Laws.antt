@@ -1,13 +1,11 @@
 -- What mirror images are by the comparison of floats, and what keeps them: a product, whose signs multiply, a sum and a
 -- difference of two with one sign, a product with the argument or with its half.
-use mathlib.Core.Path.{◌≡◌, refl, sym, subst}
-use mathlib.Core.Logic.{◌⊎◌, inl, inr}
-use Prim.Native.Nat.{ℕ, suc, ◌%◌}
-use native.Mathlib.Omega.{arith}
-use mathlib.Core.Bool.{Bool, true, false, not, ◌||◌, beq, cond}
-use lib.Dec.{T, eqb, eqb_refl}
-use lib.Ieee.{Float, nan, inf, binary64, neg, eq, level, is_nan, unlike}
-use lib.Ieee.Fits.{and_i, eq→eqb}
+use Rattle.std.proofs.Common.{◌≡◌, refl, sym, subst, ◌⊎◌, inl, inr, ℕ, suc, ◌%◌, arith, Bool, true, false, not, ◌||◌}
+use Rattle.std.proofs.Common.{cond, T, eqb, Float}
+use Rattle.std.proofs.Math.Bool.{beq}
+use Rattle.std.proofs.Math.Dec.{eqb_refl}
+use Rattle.std.specs.Float.Ieee.{nan, inf, binary64, neg, eq, level, is_nan, unlike}
+use Rattle.std.specs.Float.Ieee.Fits.{and_i, eq→eqb}
 use Rattle.floats.specs.Operations.{◌⊕◌, ◌⊖◌, ◌⊗◌, f½}
 use Rattle.floats.proofs.Booleans.{or_r}
 use Rattle.floats.proofs.Tests.{lt_or_ge}

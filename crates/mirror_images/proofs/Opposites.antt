@@ -1,15 +1,10 @@
 -- Two floats of which one is equal to the opposite of the other by the comparison of floats: it is the opposite to the
 -- bit, or both are one and the same zero.
-use mathlib.Core.Path.{◌≡◌, refl, sym, ap, ◌∙◌, subst}
-use mathlib.Core.Logic.{◌⊎◌, inl, inr}
-use Prim.Native.Nat.{ℕ, ◌*◌}
-use native.Mathlib.Nat.{zero-mul}
-use mathlib.Core.Bool.{Bool, true, false, not, true≢false}
-use lib.Dec.{T}
-use lib.IntN.{ℤ}
-use lib.Ieee.{Float, nan, inf, fin, binary64, up, down, neg, eq, fits}
-use lib.Ieee.Exact.{HasValue}
-use lib.Ieee.Fits.{and_i, down_pos, neg-fits}
+use Rattle.std.proofs.Common.{◌≡◌, refl, sym, ap, ◌∙◌, subst, ◌⊎◌, inl, inr, ℕ, ◌*◌, zero-mul, Bool, true, false, not}
+use Rattle.std.proofs.Common.{true≢false, T, ℤ, Float}
+use Rattle.std.specs.Float.Ieee.{nan, inf, fin, binary64, up, down, neg, eq, fits}
+use Rattle.std.specs.Float.Ieee.Exact.{HasValue}
+use Rattle.std.specs.Float.Ieee.Fits.{and_i, down_pos, neg-fits}
 use Rattle.floats.specs.Operations.{f0}
 use Rattle.floats.proofs.Booleans.{beq_same}
 use Rattle.floats.proofs.Values.{value_unique, rescale, own_value, neg_value}

@@ -1,16 +1,9 @@
 -- A product of mirror images is a mirror image, and the signs multiply.
-use mathlib.Core.Path.{◌≡◌, refl, sym, ap, ◌∙◌}
-use mathlib.Core.Logic.{◌⊎◌, inl, inr}
-use Prim.Native.Nat.{ℕ, zero, suc, ◌*◌, ◌<◌}
-use native.Mathlib.Nat.{zero-mul, mul-zero, mul-one, mul-pos}
-use native.Mathlib.Omega.{arith}
-use mathlib.Core.Bool.{Bool, false, cond}
-use borrow.Author.Tests.{ne_eqb}
-use lib.Dec.{eqb}
-use lib.IntN.{ℤ}
-use lib.Ieee.{Float, nan, inf, fin, binary64, up, down, mul, unlike}
-use lib.Ieee.Exact.{HasValue}
-use lib.Ieee.Fits.{up_pos, down_pos}
+use Rattle.std.proofs.Common.{◌≡◌, refl, sym, ap, ◌∙◌, ◌⊎◌, inl, inr, ℕ, zero, suc, ◌*◌, ◌<◌, zero-mul, mul-zero}
+use Rattle.std.proofs.Common.{mul-one, mul-pos, arith, Bool, false, cond, ne_eqb, eqb, ℤ, Float}
+use Rattle.std.specs.Float.Ieee.{nan, inf, fin, binary64, up, down, mul, unlike}
+use Rattle.std.specs.Float.Ieee.Exact.{HasValue}
+use Rattle.std.specs.Float.Ieee.Fits.{up_pos, down_pos}
 use Rattle.floats.specs.Operations.{◌⊗◌}
 use Rattle.floats.proofs.Tests.{one, eqb_same}
 use Rattle.floats.proofs.Arithmetic.{mul_at}

@@ -1,14 +1,11 @@
 -- A sum of mirror images with one sign is a mirror image with that sign. Where the exact sum is 0, both rounded sums are
 -- zeros, and their signs may go either way.
-use mathlib.Core.Path.{◌≡◌, refl, sym, ap, ◌∙◌}
-use mathlib.Core.Logic.{◌⊎◌, inl, inr}
-use Prim.Native.Nat.{ℕ, ◌+◌, ◌-◌, ◌*◌, ◌≤◌, ◌<◌}
-use native.Mathlib.Nat.{zero-mul, mul-pos, mul_assoc, mul_right_comm}
-use native.Mathlib.Omega.{arith}
-use mathlib.Core.Bool.{Bool, true, false, not, ◌&&◌, beq, cond}
-use lib.Dec.{T, ltb, ltb→lt, nltb→le}
-use lib.Ieee.{Float, nan, inf, fin, binary64, neg, add, round, unlike}
-use lib.Ieee.Exact.{HasValue}
+use Rattle.std.proofs.Common.{◌≡◌, refl, sym, ap, ◌∙◌, ◌⊎◌, inl, inr, ℕ, ◌+◌, ◌-◌, ◌*◌, ◌≤◌, ◌<◌, zero-mul, mul-pos}
+use Rattle.std.proofs.Common.{mul_assoc, mul_right_comm, arith, Bool, true, false, not, ◌&&◌, cond, T, ltb, ltb→lt}
+use Rattle.std.proofs.Common.{nltb→le, Float}
+use Rattle.std.proofs.Math.Bool.{beq}
+use Rattle.std.specs.Float.Ieee.{nan, inf, fin, binary64, neg, add, round, unlike}
+use Rattle.std.specs.Float.Ieee.Exact.{HasValue}
 use Rattle.floats.specs.Operations.{◌⊕◌}
 use Rattle.floats.proofs.Values.{rescale, neg_value}
 use Rattle.floats.proofs.Arithmetic.{add_at}

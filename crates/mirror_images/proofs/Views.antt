@@ -1,16 +1,12 @@
 -- Mirror images are both NaN, both infinite, or of one size, with signs that agree with the relation's or a size of 0.
-use mathlib.Core.Path.{◌≡◌, refl, sym, ap, ◌∙◌, subst}
-use mathlib.Core.Logic.{◌⊎◌, inl, inr}
-use Prim.Native.Nat.{ℕ, ◌*◌, ◌<◌}
-use native.Mathlib.Nat.{zero-mul}
-use mathlib.Core.Bool.{Bool, true, false}
-use lib.Dec.{T}
-use lib.Ieee.{Float, nan, inf, fin, binary64, up, down, neg, round, unlike, eq, is_nan}
-use lib.Ieee.Back.{round_whole}
-use lib.Ieee.Bits.{is_true}
-use lib.Ieee.Exact.{HasValue}
-use lib.Ieee.Fits.{and_i, and_l, and_r, down_pos}
-use lib.Ieee.Scale.{round_same}
+use Rattle.std.proofs.Common.{◌≡◌, refl, sym, ap, ◌∙◌, subst, ◌⊎◌, inl, inr, ℕ, ◌*◌, ◌<◌, zero-mul, Bool, true, false}
+use Rattle.std.proofs.Common.{T, Float}
+use Rattle.std.specs.Float.Ieee.{nan, inf, fin, binary64, up, down, neg, round, unlike, eq, is_nan}
+use Rattle.std.specs.Float.Ieee.Back.{round_whole}
+use Rattle.std.specs.Float.Ieee.Bits.{is_true}
+use Rattle.std.specs.Float.Ieee.Exact.{HasValue}
+use Rattle.std.specs.Float.Ieee.Fits.{and_i, and_l, and_r, down_pos}
+use Rattle.std.specs.Float.Ieee.Scale.{round_same}
 use Rattle.floats.specs.Operations.{f0}
 use Rattle.floats.proofs.Tests.{one}
 use Rattle.floats.proofs.Values.{own_value, neg_value}

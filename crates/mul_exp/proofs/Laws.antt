@@ -1,6 +1,6 @@
 -- What the crates above may know of mul_exp beside its contract.
-use mathlib.Core.Path.{◌≡◌, refl, ◌∙◌, ap}
-use lib.Ieee.{Float, add, mul, neg, lt, of_bits}
+use Rattle.std.proofs.Common.{◌≡◌, refl, ◌∙◌, ap, Float}
+use Rattle.std.specs.Float.Ieee.{add, mul, neg, lt, of_bits}
 use Rattle.floats.specs.Operations.{◌⊗◌, decimal, f0, f1}
 use Rattle.signs.specs.Signs.{absolute, sign_of}
 use Rattle.exponential.proofs.Laws as exponential

@@ -1,15 +1,9 @@
 -- Sizes of integers: half of one, the rest, and a difference of two naturals, for the casts to i32 and for the exponents of exp.
-use mathlib.Core.Path.{◌≡◌}
-use mathlib.Core.Bool.{Bool, true, false, cond}
-use Prim.Native.Nat.{ℕ, zero, suc, ◌+◌, ◌-◌, ◌*◌, ◌/◌, ◌≤◌}
-use native.Mathlib.Nat.{mul-le-mul}
-use native.Mathlib.Omega.{arith}
-use borrow.Author.Tests.{lt-ltb, le-ltb}
-use lib.Dec.{ltb}
-use lib.IntN.{ℤ, pos, negsuc, neg_ℤ, neg_ℤ-neg_ℤ, sub_ℕ, ◌-ℤ◌}
-use lib.Signed.{mag, quot_z}
-use mir.Syntax.{Width, w32}
-use mir.Val.{SFits, Fits}
+use Rattle.std.proofs.Common.{◌≡◌, Bool, true, false, cond, ℕ, zero, suc, ◌+◌, ◌-◌, ◌*◌, ◌/◌, ◌≤◌, mul-le-mul, arith}
+use Rattle.std.proofs.Common.{lt-ltb, le-ltb, ltb, ℤ, pos, negsuc, neg_ℤ, ◌-ℤ◌, w32, SFits, Fits}
+use Rattle.std.proofs.Math.IntN.{neg_ℤ-neg_ℤ, sub_ℕ}
+use Rattle.std.specs.Int.Signed.{mag, quot_z}
+use mir.Syntax.{Width}
 use mir.ValLaws.{sfits_le}
 
 mag_sub : (a b c : ℕ) → a ≤ c → b ≤ suc c → mag (sub_ℕ a b) ≤ c

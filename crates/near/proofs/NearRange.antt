@@ -1,15 +1,12 @@
 -- What near is, and its range: near of a size of at most n is at most n + 1 in size.
-use mathlib.Core.Path.{◌≡◌, refl}
-use mathlib.Core.Bool.{Bool, true, false, cond}
-use Prim.Native.Nat.{ℕ, ◌+◌, ◌-◌, ◌*◌, ◌/◌, ◌^◌, ◌≤◌, ◌<◌, min}
-use native.Mathlib.Nat.{mul_comm, div-le_of_le-mul}
-use native.Mathlib.Omega.{arith}
-use lib.Dec.{lit≤, lit<}
-use lib.IntN.{ℤ, pos, neg_ℤ}
-use lib.Signed.{mag}
-use lib.Ieee.{Float, fin, binary64, up, down, neg, le, of_bits, to_signed}
-use lib.Ieee.Exact.{HasValue}
-use lib.Ieee.Fits.{down_pos}
+use Rattle.std.proofs.Common.{◌≡◌, refl, Bool, true, false, cond, ℕ, ◌+◌, ◌-◌, ◌*◌, ◌/◌, ◌^◌, ◌≤◌, ◌<◌, min, mul_comm}
+use Rattle.std.proofs.Common.{arith, lit≤, lit<, ℤ, pos, neg_ℤ}
+use Rattle.std.specs.Float.{Float, fin, binary64}
+use Rattle.std.specs.Float.Ieee.{up, down, neg, le, of_bits, to_signed}
+use Rattle.std.specs.Float.Ieee.Exact.{HasValue}
+use Rattle.std.proofs.Math.Nat.{div-le_of_le-mul}
+use Rattle.std.specs.Int.Signed.{mag}
+use Rattle.std.specs.Float.Ieee.Fits.{down_pos}
 use Rattle.floats.specs.Operations.{◌⊕◌, ◌⊖◌, f0, f½}
 use Rattle.floats.specs.Facts.{Between}
 use Rattle.floats.proofs.Values.{neg_value, to_signed_at}

@@ -6,6 +6,7 @@ ghost use Rattle.std.specs.Prelude.{◌≡◌};
 ghost use Rattle.near.specs.Near.{near};
 
 // The nearest whole number: t + 0.5 (t - 0.5 below 0) cut towards zero.
+#[tactic(auto, unfolding(crate::specs::Near::near))]
 pub fn near(t: f64) -> i32
     ensures { result ≡ near t }
 {

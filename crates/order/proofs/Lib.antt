@@ -1,5 +1,4 @@
 pub mod Steps
-pub mod Sizes
 pub mod Facts
 pub mod Whole
 pub mod Laws

@@ -1,16 +1,15 @@
 -- Tests and casts of a split's u, and its f with 0 added or taken off, as the source makes them.
-use mathlib.Core.Path.{◌≡◌, refl, sym, ap, ◌∙◌, subst}
-use mathlib.Core.Bool.{Bool, true, false, not, ◌&&◌, ◌||◌, beq}
-use Prim.Native.Nat.{ℕ, zero, suc, ◌+◌, ◌*◌, ◌/◌, ◌^◌, ◌≤◌, ◌<◌, zero-le}
-use native.Mathlib.Nat.{le_trans, le_of_eq, lt_irrefl, lt_of_lt_of_le, one-mul, zero-mul, add-zero, sub-zero, mul-le-mul_right, le-add_right, mul-add-div_right, div-eq_of_lt}
-use native.Mathlib.Omega.{arith}
-use borrow.Author.Tests.{ne_eqb}
-use lib.Dec.{T, ltb, eqb, ltb→lt, not_T}
-use lib.Pow.{pow_pos}
-use lib.IntN.{pos}
-use lib.Ieee.{Float, nan, inf, fin, binary64, low, round, sum, neg, lt, le, below, fits, is_nan, of_int, to_signed}
-use lib.Ieee.Bits.{is_false}
-use lib.Ieee.Exact.{HasValue}
+use Rattle.std.proofs.Common.{◌≡◌, refl, sym, ap, ◌∙◌, subst, Bool, true, false, not, ◌&&◌, ◌||◌, ℕ, zero, suc, ◌+◌}
+use Rattle.std.proofs.Common.{◌*◌, ◌/◌, ◌^◌, ◌≤◌, ◌<◌, zero-le, le_trans, le_of_eq, lt_irrefl, lt_of_lt_of_le, one-mul}
+use Rattle.std.proofs.Common.{zero-mul, add-zero, mul-le-mul_right, le-add_right, arith, ne_eqb, T, ltb, eqb, ltb→lt}
+use Rattle.std.proofs.Common.{pow_pos, pos}
+use Rattle.std.specs.Float.Ieee.{Float, nan, inf, fin, binary64, low, round, sum, neg, lt, le, below, fits, is_nan}
+use Rattle.std.specs.Float.Ieee.{of_int, to_signed}
+use Rattle.std.specs.Float.Ieee.Exact.{HasValue}
+use Rattle.std.proofs.Math.Bool.{beq}
+use Rattle.std.proofs.Math.Dec.{not_T}
+use Rattle.std.proofs.Math.Nat.{sub-zero, mul-add-div_right, div-eq_of_lt}
+use Rattle.std.specs.Float.Ieee.Bits.{is_false}
 use Rattle.floats.specs.Operations.{◌⊕◌, ◌⊖◌, whole, f0, f1}
 use Rattle.floats.proofs.Values.{neg_value, to_signed_at}
 use Rattle.floats.proofs.Arithmetic.{add_at, sub_is, sum_plus, sum_minus}

@@ -1,17 +1,11 @@
 -- The parts of a whole order from 0 to 999. Its size is m, and its sign is plus, or either where m is 0.
-use mathlib.Core.Path.{◌≡◌, refl, sym, ap, ◌∙◌, subst}
-use mathlib.Core.Logic.{◌⊎◌, inl, inr}
-use Prim.Native.Nat.{ℕ, ◌+◌, ◌-◌, ◌/◌, ◌^◌, ◌≤◌}
-use native.Mathlib.Nat.{le_refl, div-one}
-use native.Mathlib.Omega.{arith}
-use mathlib.Core.Bool.{Bool, true, false}
-use borrow.Author.Tests.{le-ltb}
-use lib.Dec.{T, not_T, eqb, eqb_refl}
-use lib.IntN.{pos, nat_abs}
-use lib.Ieee.{Float, binary64, prec, le, below as belowTest, round, to_signed, of_int, of_bits}
-use lib.Ieee.Bits.{is_true, is_false}
-use lib.Ieee.Exact.{HasValue}
-use lib.Ieee.Fits.{of_int-fits}
+use Rattle.std.proofs.Common.{◌≡◌, refl, sym, ap, ◌∙◌, subst, ◌⊎◌, inl, inr, ℕ, ◌+◌, ◌-◌, ◌/◌, ◌^◌, ◌≤◌, le_refl}
+use Rattle.std.proofs.Common.{div-one, arith, Bool, true, false, le-ltb, T, eqb, pos, nat_abs}
+use Rattle.std.specs.Float.Ieee.Exact.{HasValue}
+use Rattle.std.proofs.Math.Dec.{not_T, eqb_refl}
+use Rattle.std.specs.Float.Ieee.{Float, binary64, prec, le, below as belowTest, round, to_signed, of_int, of_bits}
+use Rattle.std.specs.Float.Ieee.Bits.{is_true, is_false}
+use Rattle.std.specs.Float.Ieee.Fits.{of_int-fits}
 use Rattle.floats.specs.Operations.{whole, f0}
 use Rattle.floats.specs.Facts.{signed_int}
 use Rattle.signs.specs.Signs.{absolute}

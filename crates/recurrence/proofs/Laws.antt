@@ -1,8 +1,7 @@
 -- What the crates above may know of the recurrences beside the contracts; passed on are the cases of the definitions that
 -- `rungs` and `table_mirror` go on from.
-use mathlib.Core.Path.{◌≡◌}
-use mathlib.Core.Bool.{Bool, false}
-use lib.Ieee.{Float}
+use Rattle.std.proofs.Common.{◌≡◌, Bool, false}
+use Rattle.std.specs.Float.Ieee.{Float}
 use Rattle.floats.specs.declared.Function.TheVariants.{D}
 use Rattle.recurrence.specs.Recurrence.{own_rung_two}
 pub use Rattle.recurrence.specs.Recurrence.Open.{step_D_above, own_rung_two_D, own_rung_two_V_above, own_rung_two_V_below, next_rung_is}

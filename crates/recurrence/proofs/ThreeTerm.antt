@@ -1,8 +1,5 @@
 -- The laws of `continued`: its terms, two recurrences that agree, and a sequence taken up in the middle.
-use mathlib.Core.Path.{◌≡◌, refl, sym, ap, ◌∙◌}
-use Prim.Native.Nat.{ℕ, zero, suc, ◌+◌}
-use native.Mathlib.Nat.{zero-add}
-use native.Mathlib.Omega.{arith}
+use Rattle.std.proofs.Common.{◌≡◌, refl, sym, ap, ◌∙◌, ℕ, zero, suc, ◌+◌, zero-add, arith}
 use Rattle.recurrence.specs.ThreeTerm.{continued}
 
 -- a term from the two before it

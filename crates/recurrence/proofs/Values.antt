@@ -1,10 +1,6 @@
 -- Steps behind 01's examples, at x = 0 and f = 0, as laws for the crates above.
-use mathlib.Core.Path.{◌≡◌, ap}
-use Prim.Native.Nat.{ℕ}
-use mathlib.Core.Bool.{true}
-use mathlib.Core.List.{List}
-use lib.ListN.{get_or}
-use lib.Ieee.{Float, nan, eq, of_bits}
+use Rattle.std.proofs.Common.{◌≡◌, ap, ℕ, true, List, get_or}
+use Rattle.std.specs.Float.Ieee.{Float, nan, eq, of_bits}
 use Rattle.floats.specs.Operations.{f0}
 use Rattle.floats.specs.declared.Function.TheVariants.{«V»}
 use Rattle.recurrence.specs.Recurrence.{own_rung_two}

@@ -6,61 +6,56 @@ ghost use Rattle.std.specs.Prelude.{◌≡◌};
 ghost use Rattle.recurrence.specs.Recurrence.{step, own_rung_two, next_rung, step_down};
 
 use floats::Function;
-use order::Rung;
+use order::{Adjacent, Rung, Sequence};
 
 // Rung k from the two below it.
-pub fn step(function: Function, below: bool, x: f64, f: f64, k: Rung, low: f64, high: f64) -> f64
-    ensures { result ≡ step function below x f k low high }
+pub fn step(sequence: Sequence, k: Rung, two: Adjacent) -> f64
+    ensures { result ≡ step sequence.function sequence.below sequence.x sequence.f k two.low two.high }
 {
-    let kf = k as f64;
-    match function {
-        Function::D => {
-            if below {
-                return (-x * high + low) / (kf - 1.0 - f);
-            }
-            x * high - (kf + f - 1.0) * low
-        }
-        Function::V => {
-            if below {
-                return x * high + (kf - f - 2.0) * low;
-            }
-            (x * high - low) / (kf + f)
-        }
+    let Sequence {
+        function,
+        below,
+        x,
+        f,
+    } = sequence;
+    let Adjacent { low, high } = two;
+    let k = f64::from(k);
+    match (function, below) {
+        (Function::D, false) => x * high - (k + f - 1.0) * low,
+        (Function::D, true) => (-x * high + low) / (k - 1.0 - f),
+        (Function::V, false) => (x * high - low) / (k + f),
+        (Function::V, true) => x * high + (k - f - 2.0) * low,
     }
 }
 
 // Whether rung 2 is x times rung 1: V below 0, at f = 0.
-pub fn has_own_rung_two(function: Function, below: bool, f: f64) -> bool
-    ensures { result ≡ own_rung_two function below f }
+pub fn has_own_rung_two(sequence: Sequence) -> bool
+    ensures { result ≡ own_rung_two sequence.function sequence.below sequence.f }
 {
-    match function {
-        Function::D => false,
-        Function::V => {
-            if below {
-                return f == 0.0;
-            }
-            false
-        }
-    }
+    matches!(sequence.function, Function::V) && sequence.below && sequence.f == 0.0
 }
 
 // Rung 2 from rungs 0 and 1.
-pub fn rung_two(function: Function, below: bool, x: f64, f: f64, low: f64, high: f64) -> f64
-    ensures { result ≡ next_rung function below x f 2 low high }
+pub fn rung_two(sequence: Sequence, two: Adjacent) -> f64
+    ensures { result
+        ≡ next_rung sequence.function sequence.below sequence.x sequence.f 2 two.low two.high }
 {
-    if has_own_rung_two(function, below, f) {
-        return x * high;
+    if has_own_rung_two(sequence) {
+        sequence.x * two.high
+    } else {
+        step(sequence, 2, two)
     }
-    step(function, below, x, f, 2, low, high)
 }
 
-// Rung k from the two above it.
-pub fn step_down(function: Function, x: f64, f: f64, k: Rung, low: f64, high: f64) -> f64
-    ensures { result ≡ step_down function x f k low high }
+// Rung k from the two above it. A match, since which function it is a state says at run time.
+pub fn step_down(sequence: Sequence, k: Rung, two: Adjacent) -> f64
+    ensures { result ≡ step_down sequence.function sequence.x sequence.f k two.low two.high }
 {
-    let kf = k as f64;
+    let Sequence { function, x, f, .. } = sequence;
+    let Adjacent { low, high } = two;
+    let k = f64::from(k);
     match function {
-        Function::D => x * low + (kf - f + 1.0) * high,
-        Function::V => x * low - (kf + f + 2.0) * high,
+        Function::D => x * low + (k - f + 1.0) * high,
+        Function::V => x * low - (k + f + 2.0) * high,
     }
 }

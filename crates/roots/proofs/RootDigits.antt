@@ -1,7 +1,8 @@
 -- The loop over the 53 digits of a root: what holds while some are left, and how a step keeps it. With `left` digits to come the number whose digits are
 -- passed counts 2 ^ 54 * 4 ^ left times, and the rest 4 ^ left times: together they are radicand * 2 ^ 106 at each step.
-use Rattle.std.proofs.Common.{◌≡◌, ℕ, zero, suc, ◌+◌, ◌-◌, ◌*◌, ◌/◌, ◌%◌, ◌^◌, ◌<◌, ◌≤◌, sym, ap, mul-le-mul_right, mul-le-mul_left, zero-add, arith, pow_pos}
-use native.Mathlib.Nat.{pow-succ'}
+use Rattle.std.proofs.Common.{◌≡◌, ℕ, zero, suc, ◌+◌, ◌-◌, ◌*◌, ◌/◌, ◌%◌, ◌^◌, ◌<◌, ◌≤◌, sym, ap, mul-le-mul_right}
+use Rattle.std.proofs.Common.{mul-le-mul_left, zero-add, arith, pow_pos}
+use Rattle.std.proofs.Math.Nat.{pow-succ'}
 use Rattle.roots.specs.Steps.{Partial, NextDigit, WholeRoot}
 
 pub record Found (radicand rest root remainder left : ℕ) : Type 0 where
@@ -32,7 +33,7 @@ carried whole passed rest b h = split (rest / 2 ^ 52) (rest % 2 ^ 52) (omega ari
     split : (high low : ℕ) → rest ≡ high * 2 ^ 52 + low → whole ≡ (4 * passed + high) * (2 ^ 54 * b) + low * 4 * b
     split high low e = let f : rest * b ≡ (high * 2 ^ 52 + low) * b = ap (λ (k : ℕ). k * b) e in omega arith
 
-pub found_next : (radicand rest root remainder new_rest new_root new_remainder left : ℕ) → 0 < left → Found radicand rest root remainder left
+found_next : (radicand rest root remainder new_rest new_root new_remainder left : ℕ) → 0 < left → Found radicand rest root remainder left
     → NextDigit rest root remainder new_rest new_root new_remainder → Found radicand new_rest new_root new_remainder (left - 1)
 found_next radicand rest root remainder new_rest new_root new_remainder zero p f d = absurd (omega arith)
 found_next radicand rest root remainder new_rest new_root new_remainder (suc left) p f d = rw (one_less left) (record {
@@ -47,6 +48,13 @@ found_next radicand rest root remainder new_rest new_root new_remainder (suc lef
 
     fewer : (b : ℕ) → (root + 1) * (2 * b) ≤ 2 ^ 53 → (new_root + 1) * b ≤ 2 ^ 53
     fewer b h = let k : (new_root + 1) * b ≤ (2 * root + 2) * b = mul-le-mul_right b (omega arith) in omega arith
+
+-- the turn after `done` turns
+pub found_turn : (radicand rest root remainder new_rest new_root new_remainder done : ℕ) → done < 53 → Found radicand rest root remainder (53 - done)
+    → NextDigit rest root remainder new_rest new_root new_remainder → Found radicand new_rest new_root new_remainder (53 - (done + 1))
+found_turn radicand rest root remainder new_rest new_root new_remainder done h f d =
+    let e : 53 - (done + 1) ≡ 53 - done - 1 = omega arith in
+    rw e (found_next radicand rest root remainder new_rest new_root new_remainder (53 - done) (omega arith) f d)
 
 pub found_all : (radicand rest root remainder left : ℕ) → left ≤ 0 → Found radicand rest root remainder left → WholeRoot radicand root remainder
 found_all radicand rest root remainder zero p f = record { value = omega arith; over = f.over; small = omega arith }

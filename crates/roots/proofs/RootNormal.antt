@@ -1,32 +1,38 @@
--- The digits of a float at 53 places: a subnormal's are moved up by one place at each turn of a loop, and any other pattern has them.
-use Rattle.std.proofs.Common.{◌≡◌, ℕ, zero, suc, ◌+◌, ◌-◌, ◌*◌, ◌/◌, ◌%◌, ◌^◌, ◌<◌, ◌≤◌, sym, refl, ap, ◌∙◌, subst, mul_assoc, arith, pow-add}
-use native.Mathlib.Nat.{pow-succ'}
+-- The digits of a float at 53 places: a subnormal's are moved up, and any other pattern has them.
+use Rattle.std.proofs.Common.{◌≡◌, ℕ, zero, suc, ◌+◌, ◌-◌, ◌*◌, ◌/◌, ◌%◌, ◌^◌, ◌<◌, ◌≤◌, sym, refl, ap, ◌∙◌, subst}
+use Rattle.std.proofs.Common.{mul_assoc, arith, pow-add, inl, inr, pow_mono, pow_pos, mul-le-mul_right}
+use Rattle.std.proofs.Common.{mul-lt-mul_of_pos_right}
+use Rattle.std.specs.Int.Count.{count_leading_zeros, leading_top}
+use Rattle.floats.proofs.Tests.{lt_or_ge}
 use Rattle.roots.specs.Steps.{fields_magnitude, magnitude, Normal}
 
--- what holds at each turn
-pub record Moved (fraction significand exponent : ℕ) : Type 0 where
-  pub value : significand * 2 ^ exponent ≡ fraction * 2 ^ 53
-  pub most : significand < 2 ^ 53
-  pub room : exponent ≤ 53
+-- a fraction has from 1 to 52 digits, and is moved up by the rest of 53
+pub zeros_before : (fraction : ℕ) → 0 < fraction → fraction < 2 ^ 52 → 11 ≤ count_leading_zeros 64 fraction
+zeros_before fraction p h = let t = leading_top 64 fraction p (omega arith) in elim (lt_or_ge t.0 52) [
+  | inl k ↦ omega (arith, t.1)
+  | inr k ↦ let g : 2 ^ 52 ≤ 2 ^ t.0 = pow_mono k in absurd (omega (arith, t.2))
+]
 
-pub exponent_left : (fraction significand exponent : ℕ) → 0 < fraction → significand < 2 ^ 52 → Moved fraction significand exponent → 0 < exponent
-exponent_left fraction significand zero p h m = absurd (omega arith)
-exponent_left fraction significand (suc exponent) p h m = omega arith
-
-pub moved_on : (fraction significand exponent : ℕ) → 0 < fraction → significand < 2 ^ 52 → Moved fraction significand exponent
-    → Moved fraction (significand * 2) (exponent - 1)
-moved_on fraction significand zero p h m = absurd (omega arith)
-moved_on fraction significand (suc exponent) p h m = record {
-  value = ap (λ (k : ℕ). significand * 2 * 2 ^ k) (omega arith)
-      ∙ mul_assoc significand 2 (2 ^ exponent)
-      ∙ ap (λ (k : ℕ). significand * k) (sym (pow-succ' 2 exponent))
-      ∙ m.value;
-  most = omega arith;
-  room = omega arith;
-}
-
-pub moved_up : (fraction significand exponent : ℕ) → 2 ^ 52 ≤ significand → Moved fraction significand exponent → Normal fraction significand exponent
-moved_up fraction significand exponent h m = record { value = m.value; least = h; most = m.most; room = omega arith }
+pub moved_up : (fraction exponent : ℕ) → 0 < fraction → fraction < 2 ^ 52 → exponent ≡ 53 - (count_leading_zeros 64 fraction - 11)
+    → Normal fraction (fraction * 2 ^ (count_leading_zeros 64 fraction - 11) % 18446744073709551616) exponent
+moved_up fraction exponent p h e = let t = leading_top 64 fraction p (omega arith) in go t.0 (count_leading_zeros 64 fraction - 11) (omega (arith, t.1, zeros_before fraction p h)) e t.2 t.3
+  where
+    go : (j shift : ℕ) → j + shift ≡ 52 → exponent ≡ 53 - shift → 2 ^ j ≤ fraction → fraction < 2 ^ suc j
+        → Normal fraction (fraction * 2 ^ shift % 18446744073709551616) exponent
+    go j shift s e a b =
+        let q : suc j + shift ≡ 53 = omega arith in
+        let r : shift + exponent ≡ 53 = omega arith in
+        let least : 2 ^ 52 ≤ fraction * 2 ^ shift =
+        subst (λ (k : ℕ). k ≤ fraction * 2 ^ shift) (sym (pow-add 2 j shift) ∙ ap (λ (k : ℕ). 2 ^ k) s) (mul-le-mul_right (2 ^ shift) a) in
+        let most : fraction * 2 ^ shift < 2 ^ 53 =
+        subst (λ (k : ℕ). fraction * 2 ^ shift < k) (sym (pow-add 2 (suc j) shift) ∙ ap (λ (k : ℕ). 2 ^ k) q) (mul-lt-mul_of_pos_right b (pow_pos shift)) in
+        let plain : fraction * 2 ^ shift % 18446744073709551616 ≡ fraction * 2 ^ shift = omega arith in
+        rw plain (record {
+          value = mul_assoc fraction (2 ^ shift) (2 ^ exponent) ∙ ap (λ (k : ℕ). fraction * k) (sym (pow-add 2 shift exponent) ∙ ap (λ (k : ℕ). 2 ^ k) r);
+          least = least;
+          most = most;
+          room = omega arith;
+        })
 
 -- ---- the fields of a pattern
 
@@ -46,3 +52,6 @@ normal_pattern pattern p h = go (pattern / 2 ^ 52) (pattern % 2 ^ 52) p (omega a
       most = omega arith;
       room = omega arith;
     }
+
+-- what `from_subnormal` and `from_pattern` take
+pub ruleset normal_laws = (zeros_before, subnormal_pattern, normal_pattern)

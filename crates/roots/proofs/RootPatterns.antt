@@ -1,13 +1,16 @@
 -- The square root of x by the pattern of x: its sign, its exponent's field and its fraction say which case of the definition holds, and the root's pattern
 -- is made of the root's exponent and significand.
-use Rattle.std.proofs.Common.{◌≡◌, ℕ, zero, suc, ◌+◌, ◌-◌, ◌*◌, ◌/◌, ◌%◌, ◌^◌, ◌<◌, ◌≤◌, Bool, true, false, cond, not, T, eqb, pos, sym, refl, ap, ◌∙◌, subst, inl, inr, lt_irrefl, mod-eq_of_lt, eq-or-lt_of_le, mul-pos, zero-mul, mul-one, mul-div_cancel, arith, pow_pos, le-ltb, ne_eqb, le-leb}
-use native.Mathlib.Nat.{mod-le}
+use Rattle.std.proofs.Common.{◌≡◌, ℕ, zero, suc, ◌+◌, ◌-◌, ◌*◌, ◌/◌, ◌%◌, ◌^◌, ◌<◌, ◌≤◌, Bool, true, false, cond, not}
+use Rattle.std.proofs.Common.{T, eqb, pos, sym, refl, ap, ◌∙◌, subst, inl, inr, lt_irrefl, mod-eq_of_lt, eq-or-lt_of_le}
+use Rattle.std.proofs.Common.{mul-pos, zero-mul, mul-one, mul-div_cancel, arith, pow_pos, le-ltb, ne_eqb, le-leb}
+use Rattle.std.specs.Float.{Float, nan, inf, fin, binary64}
+use Rattle.std.specs.Float.Ieee.{down, up, odd, of_fields, of_bits, to_bits, fits, nan_bits, is_nan}
+use Rattle.std.specs.Float.Ieee.Exact.{HasValue, odd_sign}
+use Rattle.std.proofs.Math.Nat.{mod-le}
+use Rattle.std.specs.Float.Ieee.Bits.{of_bits-to_bits, to_bits-lt, nan_bits_above}
+use Rattle.std.specs.Float.Ieee.Fits.{down_pos}
 use borrow.Author.Tests.{lt-leb}
-use lib.Ieee.{Float, nan, inf, fin, binary64, down, up, odd, of_fields, of_bits, to_bits, fits, nan_bits, div, ne}
-use lib.Ieee.Bits.{of_bits-to_bits, to_bits-lt, nan_bits_above}
-use lib.Ieee.Compare.{differs_from_itself}
-use lib.Ieee.Exact.{HasValue, odd_sign}
-use lib.Ieee.Fits.{down_pos}
+use Rattle.signs.proofs.Signs.{nan_is, no_number}
 use Rattle.floats.specs.Operations.{bits, f0}
 use Rattle.roots.specs.SquareRoot.{square_root, root_of_units}
 use Rattle.roots.specs.SquareRoot.Open.{square_root_nan, square_root_infinity, square_root_zero, square_root_finite}
@@ -125,8 +128,8 @@ root_no_nan n b r =
 
 -- ---- by the tests of the program
 
-pub root_of_nan : (x : Float) → ne x x ≡ true → x ≡ square_root x
-root_of_nan x h = rw (differs_from_itself x (rw h tt)) (sym square_root_nan)
+pub root_of_nan : (x : Float) → is_nan x ≡ true → x ≡ square_root x
+root_of_nan x h = rw (no_number x h) (sym square_root_nan)
 
 module _ (x : Float) (held : T (fits binary64 x)) where
   same : square_root (bits (to_bits binary64 x)) ≡ square_root x
@@ -151,7 +154,5 @@ module _ (x : Float) (held : T (fits binary64 x)) where
   pub root_above_zero : (b : ℕ) → 0 < to_bits binary64 x → to_bits binary64 x < 2047 * 2 ^ 52 → RootPattern (magnitude (to_bits binary64 x)) b → bits b ≡ square_root x
   root_above_zero b l h r = root_bits (magnitude (to_bits binary64 x)) b r ∙ sym (positive_pattern (to_bits binary64 x) l h) ∙ same
 
--- the NaN that the program makes
-pub zero_over_zero : div binary64 f0 f0 ≡ nan
-unfolding div of_bits
-zero_over_zero = refl
+-- what `square_root` takes
+pub ruleset pattern_laws = (nan_is, root_of_nan, root_below_zero, root_of_zero, root_of_itself, root_above_zero)

@@ -1,10 +1,12 @@
 -- The root of x * 4 ^ c in units of 2 ^ c, rounded: the whole root q of x, or q + 1 where x is above the square of the middle, q + 1/2. That square lies
 -- between q * q + q and the next whole number, so no x is a tie.
-use Rattle.std.proofs.Common.{◌≡◌, ℕ, zero, suc, ◌+◌, ◌-◌, ◌*◌, ◌^◌, ◌<◌, ◌≤◌, not, T, sym, refl, ap, ◌∙◌, subst, inl, inr, mul_assoc, mul-le-mul, mul-lt-mul_of_pos_right, lt_of_not-le, mul-div_cancel, add-one, arith, lit<, eqb→eq, leb→le}
+use Rattle.std.proofs.Common.{◌≡◌, ℕ, zero, suc, ◌+◌, ◌-◌, ◌*◌, ◌^◌, ◌<◌, ◌≤◌, not, T, sym, refl, ap, ◌∙◌, subst, inl}
+use Rattle.std.proofs.Common.{inr, mul_assoc, mul-le-mul, mul-lt-mul_of_pos_right, lt_of_not-le, mul-div_cancel}
+use Rattle.std.proofs.Common.{add-one, arith, lit<, eqb→eq, leb→le}
+use Rattle.std.specs.Float.Ieee.{nearest}
+use Rattle.std.proofs.Math.Nat.{one-le-pow}
+use Rattle.std.proofs.Math.Dec.{is_le, compare_is_eq, nleb→lt}
 use Prim.Native.Nat.{compare, Ordering}
-use native.Mathlib.Nat.{one-le-pow}
-use lib.Dec.{is_le, compare_is_eq, nleb→lt}
-use lib.Ieee.{nearest}
 use Rattle.floats.proofs.Tests.{lt_or_ge}
 use Rattle.roots.specs.SquareRoot.{whole_root, rounded_root}
 use Rattle.roots.specs.SquareRoot.Open.{rounded_root_is}

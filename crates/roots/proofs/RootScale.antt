@@ -1,9 +1,12 @@
 -- The scale of a root: n * 2 ^ 1074 is radicand * 2 ^ 52 * 4 ^ c, a number of 105 or 106 digits with 2 * c zeros behind it, so the definition drops c digits
 -- of the root. At an even exponent the radicand is twice the significand.
-use Rattle.std.proofs.Common.{◌≡◌, ℕ, zero, suc, ◌+◌, ◌-◌, ◌*◌, ◌/◌, ◌%◌, ◌^◌, ◌<◌, ◌≤◌, false, sym, refl, ap, ◌∙◌, subst, le_trans, le_of_eq, lt_of_lt_of_le, lt_irrefl, mul-le-mul_right, mul_assoc, mul-lt-mul_of_pos_right, one-mul, lt_of_not-le, mul-one, mul_right_comm, arith, lit≤, pow_mono, pow-add}
-use native.Mathlib.Nat.{mul-mul-mul_comm, pow-succ'}
-use lib.Ieee.{size, odd}
-use lib.Ieee.Digits.{size-lt, size-le}
+use Rattle.std.proofs.Common.{◌≡◌, ℕ, zero, suc, ◌+◌, ◌-◌, ◌*◌, ◌/◌, ◌%◌, ◌^◌, ◌<◌, ◌≤◌, false, sym, refl, ap, ◌∙◌}
+use Rattle.std.proofs.Common.{subst, le_trans, le_of_eq, lt_of_lt_of_le, lt_irrefl, mul-le-mul_right, mul_assoc}
+use Rattle.std.proofs.Common.{mul-lt-mul_of_pos_right, one-mul, lt_of_not-le, mul-one, mul_right_comm, arith, lit≤}
+use Rattle.std.proofs.Common.{pow_mono, pow-add}
+use Rattle.std.specs.Float.Ieee.{size, odd}
+use Rattle.std.proofs.Math.Nat.{mul-mul-mul_comm, pow-succ'}
+use Rattle.std.specs.Float.Ieee.Digits.{size-lt, size-le}
 use Rattle.roots.specs.SquareRoot.{rounded_root, dropped_digits, root_of_units}
 use Rattle.roots.specs.SquareRoot.Open.{dropped_digits_is, root_of_units_is}
 use Rattle.roots.specs.Steps.{Normal, NearestWhole, RootPattern}

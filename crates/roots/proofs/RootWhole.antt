@@ -1,9 +1,10 @@
 -- The whole root of n, by induction on its digits: its square is at most n and the next number's square is above n, which is true of one number only.
-use Rattle.std.proofs.Common.{◌≡◌, ℕ, zero, suc, ◌+◌, ◌*◌, ◌/◌, ◌^◌, ◌<◌, ◌≤◌, cond, leb, inl, inr, lt_of_lt_of_le, le_of_suc-le-suc, mul-le-mul, le_antisymm, lt_of_not-le, arith, le-leb}
-use native.Mathlib.Nat.{pow-succ', pow-le-pow_left}
+use Rattle.std.proofs.Common.{◌≡◌, ℕ, zero, suc, ◌+◌, ◌*◌, ◌/◌, ◌^◌, ◌<◌, ◌≤◌, cond, leb, inl, inr, lt_of_lt_of_le}
+use Rattle.std.proofs.Common.{le_of_suc-le-suc, mul-le-mul, le_antisymm, lt_of_not-le, arith, le-leb}
+use Rattle.std.specs.Float.Ieee.{size}
+use Rattle.std.proofs.Math.Nat.{pow-succ', pow-le-pow_left}
+use Rattle.std.specs.Float.Ieee.Digits.{size-lt}
 use borrow.Author.Tests.{lt-leb}
-use lib.Ieee.{size}
-use lib.Ieee.Digits.{size-lt}
 use Rattle.floats.proofs.Tests.{lt_or_ge}
 use Rattle.roots.specs.SquareRoot.{root_digits, whole_root}
 use Rattle.roots.specs.SquareRoot.Open.{root_digits_none, root_digits_one_more, whole_root_is}

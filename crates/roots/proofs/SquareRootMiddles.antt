@@ -1,7 +1,11 @@
 -- The middle of a rounded root q * 2 ^ c and any other float s * 2 ^ k lies on the float's side of the root: the float is at least a step of 2 ^ c away,
 -- and the rounding has compared the root with the middle of that step.
-use Rattle.std.proofs.Common.{◌≡◌, ℕ, zero, suc, ◌+◌, ◌-◌, ◌*◌, ◌^◌, ◌<◌, ◌≤◌, sym, ap, ◌∙◌, inl, inr, le_trans, le_of_eq, lt_of_lt_of_le, le_of_suc-le-suc, lt_of_le_of_lt, le_of_lt, lt_irrefl, mul-le-mul_right, mul_assoc, mul-le-mul, lt_of_mul-lt-mul_right, eq-or-lt_of_le, mul-le-mul_left, mul-lt-mul_of_pos_right, lt_of_not-le, sub-add_cancel, arith, pow_mono, pow-add}
-use native.Mathlib.Nat.{mul-mul-mul_comm, pow-succ'}
+use Rattle.std.proofs.Common.{◌≡◌, ℕ, zero, suc, ◌+◌, ◌-◌, ◌*◌, ◌^◌, ◌<◌, ◌≤◌, sym, ap, ◌∙◌, inl, inr, le_trans}
+use Rattle.std.proofs.Common.{le_of_eq, lt_of_lt_of_le, le_of_suc-le-suc, lt_of_le_of_lt, le_of_lt, lt_irrefl}
+use Rattle.std.proofs.Common.{mul-le-mul_right, mul_assoc, mul-le-mul, lt_of_mul-lt-mul_right, eq-or-lt_of_le}
+use Rattle.std.proofs.Common.{mul-le-mul_left, mul-lt-mul_of_pos_right, lt_of_not-le, sub-add_cancel, arith, pow_mono}
+use Rattle.std.proofs.Common.{pow-add}
+use Rattle.std.proofs.Math.Nat.{mul-mul-mul_comm, pow-succ'}
 use Rattle.floats.proofs.Tests.{lt_or_ge}
 use Rattle.roots.proofs.RootRounding.{four_pos, less_scaled, more_scaled, Rounded}
 use Rattle.roots.proofs.RootScale.{four_pow}

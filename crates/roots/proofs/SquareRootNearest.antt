@@ -1,11 +1,15 @@
 -- The square root is the nearest float, and no other is as near. A float above 0 has 53 digits at some exponent, and they give the scale of its root;
 -- there the root is rounded, and its middle with each other float is compared with it.
-use Rattle.std.proofs.Common.{◌≡◌, ℕ, zero, suc, ◌+◌, ◌-◌, ◌*◌, ◌/◌, ◌%◌, ◌^◌, ◌<◌, ◌≤◌, Bool, true, false, T, sym, refl, ap, ◌∙◌, subst, le_trans, le_of_eq, le_refl, lt_of_lt_of_le, lt_of_le_of_lt, le_of_lt, lt_irrefl, mul-le-mul_right, mul_assoc, mul-le-mul, mul-lt-mul_of_pos_right, mul-pos, lt_of_not-le, zero-mul, arith, pow_pos, pow_mono, pow-add}
-use native.Mathlib.Nat.{eq_of_mul-eq-mul_right}
-use lib.Ieee.{Float, binary64, size, fits}
-use lib.Ieee.Digits.{size-lt, size_reaches, size-le}
-use lib.Ieee.Exact.{HasValue, odd_sign}
-use lib.Ieee.Fits.{odd-fits}
+use Rattle.std.proofs.Common.{◌≡◌, ℕ, zero, suc, ◌+◌, ◌-◌, ◌*◌, ◌/◌, ◌%◌, ◌^◌, ◌<◌, ◌≤◌, Bool, true, false, T, sym}
+use Rattle.std.proofs.Common.{refl, ap, ◌∙◌, subst, le_trans, le_of_eq, le_refl, lt_of_lt_of_le, lt_of_le_of_lt}
+use Rattle.std.proofs.Common.{le_of_lt, lt_irrefl, mul-le-mul_right, mul_assoc, mul-le-mul, mul-lt-mul_of_pos_right}
+use Rattle.std.proofs.Common.{mul-pos, lt_of_not-le, zero-mul, arith, pow_pos, pow_mono, pow-add}
+use Rattle.std.specs.Float.{Float, binary64}
+use Rattle.std.specs.Float.Ieee.{size, fits}
+use Rattle.std.specs.Float.Ieee.Exact.{HasValue, odd_sign}
+use Rattle.std.proofs.Math.Nat.{eq_of_mul-eq-mul_right}
+use Rattle.std.specs.Float.Ieee.Digits.{size-lt, size_reaches, size-le}
+use Rattle.std.specs.Float.Ieee.Fits.{odd-fits}
 use Rattle.floats.proofs.Values.{value_finite, cross}
 use Rattle.floats.proofs.Rounding.{on_grid}
 use Rattle.roots.specs.SquareRoot.{square_root, rounded_root, root_of_units}

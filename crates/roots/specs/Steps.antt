@@ -31,18 +31,6 @@ pub record NearestWhole (radicand root : ℕ) : Type 0 where
   pub least : 2 ^ 52 ≤ root
   pub most : root < 2 ^ 53
 
--- ---- the certificate of a guess
-
--- r is 1 where a < b, and 0 elsewhere
-pub record LessDigit (a b r : ℕ) : Type 0 where
-  pub small : r ≤ 1
-  pub one : a < b → r ≡ 1
-  pub none : b ≤ a → r ≡ 0
-
--- r is 0, or the whole number nearest to the root of radicand * 2 ^ 52
-pub record Certified (radicand r : ℕ) : Type 0 where
-  pub nearest : 0 < r → NearestWhole radicand r
-
 -- ---- patterns
 
 -- how many units of 2 ^ -1074 the exponent's field and the fraction of a finite float stand for

@@ -7,38 +7,29 @@
 // 67108864 is 2^26, 33554432 is 2^25, 134217728 is 2^27, 1073741824 is 2^30, 2147483648 is 2^31, 4503599627370496 is
 // 2^52, 72057594037927936 is 2^56, and 36028796515647488 is 2^55 - 2^29 + 2^25.
 
-ghost use Rattle.std.specs.Prelude.{◌-◌, ◌^◌, ◌<◌, ◌≤◌};
-ghost use Rattle.roots.specs.Steps.{Certified, LessDigit};
+ghost use Rattle.std.specs.Prelude.{◌-◌, ◌^◌, ◌<◌, ◌≤◌, IfSome};
+ghost use Rattle.roots.specs.Steps.{NearestWhole};
 
-// 1 where a is below b, and 0 elsewhere.
-fn less_digit(a: u64, b: u64) -> u64
-    ensures { LessDigit a b result }
-{
-    if a < b { 1 } else { 0 }
-}
-
-// The whole number nearest to the root of radicand * 2^52, where the guess is at most 1 off; 0 for any other guess.
-pub(crate) fn certified_root(radicand: u64, guess: u64) -> u64
+// The whole number nearest to the root of radicand * 2^52, where the guess is at most 1 off; none for any other guess.
+pub(crate) fn certified_root(radicand: u64, guess: u64) -> Option<u64>
     requires { (2 ^ 52 ≤ radicand) × (radicand < 2 ^ 54 - 1) × (guess < 2 ^ 54) }
-    ensures { Certified radicand result }
+    ensures { IfSome result (λ r. NearestWhole radicand r) }
 {
     let high = guess / 67108864;
     let low = guess % 67108864;
-    let first = std::num::wrapping_sub_u64(radicand + 1073741824, high * high);
-    if 2147483648 <= first {
-        return 0;
+    let first = (radicand + 1073741824).wrapping_sub(high * high);
+    if first >= 2147483648 {
+        return None;
     }
-    let second = std::num::wrapping_sub_u64(first * 33554432, high * low + 36028796515647488);
-    if 1073741824 <= second {
-        return 0;
+    let second = (first * 33554432).wrapping_sub(high * low + 36028796515647488);
+    if second >= 1073741824 {
+        return None;
     }
     let remainder = second * 134217728 + 4503599627370496 - low * low;
-    if remainder + 3 * guess < 72057594037927939 {
-        return 0;
+    if remainder + 3 * guess < 72057594037927939 || 72057594037927938 + 3 * guess < remainder {
+        return None;
     }
-    if 72057594037927938 + 3 * guess < remainder {
-        return 0;
-    }
-    guess + less_digit(72057594037927936 + guess, remainder)
-        - less_digit(remainder + guess, 72057594037927937)
+    let above = u64::from(72057594037927936 + guess < remainder);
+    let below = u64::from(remainder + guess < 72057594037927937);
+    Some(guess + above - below)
 }

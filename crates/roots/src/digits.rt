@@ -44,10 +44,8 @@ fn root_digits(radicand: u64) -> Digits
         root: 0,
         remainder: 0,
     };
-    let mut left: u64 = 53;
-    while 0 < left {
+    for _ in 0..53_u32 {
         s = next_digit(s);
-        left -= 1;
     }
     s
 }

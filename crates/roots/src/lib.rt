@@ -29,45 +29,43 @@ struct Scaled {
     exponent: u64,
 }
 
-// The whole number nearest to the root of significand * (2 - parity) * 2^52. The guess, from 1 to 2, is read as a whole
-// number of units of 2^-52: its pattern is 1023 * 2^52 and the fraction, and 1023 * 2^52 + 2^53 is 2^52 modulo 2^54.
+// The whole number nearest to the root of significand * (2 - parity) * 2^52, in which parity, 0 or 1, is a number. The
+// guess, from 1 to 2, is read as a whole number of units of 2^-52: its pattern is 1023 * 2^52 and the fraction, and
+// 1023 * 2^52 + 2^53 is 2^52 modulo 2^54.
+#[tactic(auto, using(crate::proofs::RootScale::radicand_bounds, crate::proofs::RootPatterns::no_nan_pattern))]
 fn nearest_root(significand: u64, parity: u64) -> u64
     requires { (2 ^ 52 ≤ significand) × (significand < 2 ^ 53) × (parity < 2) }
     ensures { NearestWhole (significand * (2 - parity)) result }
 {
     let radicand = significand * (2 - parity);
     let guess = root_guess(f64::from_bits(significand + 4602678819172646912), parity);
-    if guess != guess {
-        return nearest_by_digits(radicand);
+    if !guess.is_nan()
+        && let Some(root) = certified_root(
+            radicand,
+            (guess.to_bits() % 18014398509481984 + 9007199254740992) % 18014398509481984,
+        )
+    {
+        root
+    } else {
+        nearest_by_digits(radicand)
     }
-    let root = certified_root(
-        radicand,
-        (f64::to_bits(guess) % 18014398509481984 + 9007199254740992) % 18014398509481984,
-    );
-    if root == 0 {
-        return nearest_by_digits(radicand);
-    }
-    root
 }
 
 // The digits of a subnormal float, moved up to 53 places.
+#[tactic(auto, using(crate::proofs::RootNormal::normal_laws))]
 fn from_subnormal(fraction: u64) -> Scaled
     requires { (0 < fraction) × (fraction < 2 ^ 52) }
     ensures { Normal fraction result.significand result.exponent }
 {
-    let mut significand = fraction;
-    let mut exponent: u64 = 53;
-    while significand < 4503599627370496 {
-        significand = significand * 2;
-        exponent -= 1;
-    }
+    let shift = fraction.leading_zeros() - 11;
     Scaled {
-        significand,
-        exponent,
+        significand: fraction << shift,
+        exponent: u64::from(53 - shift),
     }
 }
 
 // The 53 digits and the exponent that the pattern of a finite float above 0 stands for.
+#[tactic(auto, using(crate::proofs::RootNormal::normal_laws))]
 fn from_pattern(pattern: u64) -> Scaled
     requires { (0 < pattern) × (pattern < 2047 * 2 ^ 52) }
     ensures { Normal (magnitude pattern) result.significand result.exponent }
@@ -95,21 +93,19 @@ fn root_pattern(pattern: u64) -> u64
 }
 
 // The square root of x: NaN below 0; the zeros and infinity are their own roots.
+#[tactic(auto, using(crate::proofs::RootPatterns::pattern_laws))]
 pub fn square_root(x: f64) -> f64
     ensures { result ≡ square_root x }
 {
-    if x != x {
+    if x.is_nan() {
         return x;
     }
-    let pattern = f64::to_bits(x);
-    if pattern < 9218868437227405312 {
-        if pattern == 0 {
-            return x;
-        }
-        return f64::from_bits(root_pattern(pattern));
+    let pattern = x.to_bits();
+    if 0 < pattern && pattern < 9218868437227405312 {
+        f64::from_bits(root_pattern(pattern))
+    } else if pattern <= 9223372036854775808 {
+        x
+    } else {
+        f64::NAN
     }
-    if 9223372036854775808 < pattern {
-        return 0.0 / 0.0;
-    }
-    x
 }

@@ -1,12 +1,8 @@
 -- The definitions are the source's text, in the records of specs/Source.antt.
-use mathlib.Core.Path.{◌≡◌, refl, sym, ap, ◌∙◌, subst}
-use mathlib.Core.Bool.{Bool, true, false, cond}
-use Prim.Native.Nat.{ℕ, zero, suc, ◌+◌, ◌-◌, ◌≤◌}
-use native.Mathlib.Omega.{arith}
-use lib.Dec.{T}
-use lib.IntN.{ℤ, pos, neg_ℤ, nat_abs}
-use lib.Ieee.{Float, nan, inf, fin, neg, lt, le, of_bits, of_int, to_signed}
-use lib.Ieee.Bits.{is_false}
+use Rattle.std.proofs.Common.{◌≡◌, refl, sym, ap, ◌∙◌, subst, Bool, true, false, cond, ℕ, zero, suc, ◌+◌, ◌-◌, ◌≤◌}
+use Rattle.std.proofs.Common.{arith, T, ℤ, pos, neg_ℤ, nat_abs}
+use Rattle.std.specs.Float.Ieee.{Float, nan, inf, fin, neg, lt, le, of_bits, of_int, to_signed}
+use Rattle.std.specs.Float.Ieee.Bits.{is_false}
 use Rattle.floats.specs.Operations.{◌⊕◌, ◌⊖◌, float, whole, decimal, f0, f1, f¼_is}
 use Rattle.floats.specs.Facts.{signed_int}
 use Rattle.floats.proofs.Comparison.{float_lt_total, lt_no_nan}
@@ -25,7 +21,7 @@ use Rattle.recurrence.specs.Recurrence.{own_rung_two, step_down}
 use Rattle.recurrence.proofs.Laws.{own_rung_two_D, own_rung_two_V_above, own_rung_two_V_below, next_rung_is}
 use Rattle.branches.specs.Constants.{f7·5, f7·5_is}
 use Rattle.branches.proofs.Laws.{V_scaled}
-use Rattle.rungs.specs.declared.Sequence.{Sequence}
+use Rattle.order.specs.declared.Sequence.{Sequence}
 use Rattle.rungs.specs.Constants.{f5·8_is}
 use Rattle.rungs.specs.Rungs.{start_sum, start_value, starts_gaussian, next_order, start_rungs, rung, descent, top_rungs, downward_rung, seed, raw_rung}
 use Rattle.rungs.specs.Rungs.Open.{start_sum_D_small, start_sum_D_large, start_sum_V_small, start_sum_V_large, small_limit_D, small_limit_V}

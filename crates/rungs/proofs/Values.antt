@@ -1,10 +1,7 @@
 -- The rungs behind 01's examples, at x = 0 and f = 0, as laws for the crates above: from the start rungs, which exponential and start_sums give, by
 -- computed steps.
-use mathlib.Core.Path.{◌≡◌, sym, ap, ◌∙◌}
-use Prim.Native.Nat.{ℕ, suc, ◌+◌}
-use native.Mathlib.Omega.{arith}
-use mathlib.Core.Bool.{true, false}
-use lib.Ieee.{Float, add, mul, neg, le, eq, of_bits}
+use Rattle.std.proofs.Common.{◌≡◌, sym, ap, ◌∙◌, ℕ, suc, ◌+◌, arith, true, false}
+use Rattle.std.specs.Float.Ieee.{Float, add, mul, neg, le, eq, of_bits}
 use Rattle.floats.specs.Operations.{◌⊗◌, decimal, f0, f1}
 use Rattle.signs.specs.Signs.{absolute}
 use Rattle.exponential.proofs.Laws.{exp_zero, exp_minus_zero}
@@ -16,7 +13,7 @@ use Rattle.derivatives.specs.Derivatives.{derivative}
 use Rattle.recurrence.proofs.Laws.{own_rung_two_D, own_rung_two_V_below, next_rung_is}
 use Rattle.derivatives.proofs.Laws.{derivative_V_below}
 use Rattle.recurrence.proofs.Values.{at}
-use Rattle.rungs.specs.declared.Sequence.{Sequence}
+use Rattle.order.specs.declared.Sequence.{Sequence}
 use Rattle.rungs.specs.Rungs.{start_value, start_rungs, rung}
 use Rattle.rungs.specs.Rungs.Open.{start_sum_V_small, small_limit_V, start_value_is, gaussian_is, growth_is, starts_gaussian_D_above, starts_gaussian_V, start_rungs_is}
 use Rattle.rungs.proofs.Laws.{rungs_zero_one, rung_next, own_rung_two_law}

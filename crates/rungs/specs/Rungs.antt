@@ -17,7 +17,7 @@ use Rattle.floats.specs.declared.Function.TheVariants.{D, «V»}
 use Rattle.recurrence.specs.Recurrence.{own_rung_two, next_rung, step_down}
 use Rattle.recurrence.specs.ThreeTerm.{continued}
 use Rattle.branches.specs.Constants.{f7·5}
-use Rattle.rungs.specs.declared.Sequence.{Sequence}
+use Rattle.order.specs.declared.Sequence.{Sequence}
 use Rattle.rungs.specs.Constants.{f5·8, seed_d, seed_v}
 pub mod Open
 pub mod Examples

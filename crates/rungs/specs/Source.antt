@@ -16,7 +16,7 @@ use Rattle.recurrence.specs.Recurrence.{step, own_rung_two, step_down}
 use Rattle.derivatives.specs.Derivatives.{derivative}
 use Rattle.branches.specs.declared.Branch.TheVariants.{Forward, Downward, Scaled}
 use Rattle.branches.specs.Branches.{branch_of}
-use Rattle.rungs.specs.declared.Sequence.{Sequence}
+use Rattle.order.specs.declared.Sequence.{Sequence}
 use Rattle.rungs.specs.Rungs.{start_value, next_order, start_rungs, rung, top_rungs, downward_rung}
 use Rattle.rungs.specs.Rungs.{seed, raw_rung, scaled_rung}
 use Rattle.rungs.specs.ColumnValues.{value, derivative_at}

@@ -1,9 +1,8 @@
 -- What 01 says of the sign, as theorems about the definitions.
-use mathlib.Core.Path.{◌≡◌, refl}
-use Prim.Native.Nat.{ℕ}
-use mathlib.Core.Bool.{Bool, false}
-use lib.Ieee.{Float, nan, inf, fin, neg, of_bits}
-use lib.Ieee.Exact.{HasValue}
+use Rattle.std.proofs.Common.{◌≡◌, refl, ℕ, Bool, false}
+use Rattle.std.specs.Float.{Float, nan, inf, fin}
+use Rattle.std.specs.Float.Ieee.{neg, of_bits}
+use Rattle.std.specs.Float.Ieee.Exact.{HasValue}
 use Rattle.floats.specs.Operations.{f0, f1}
 use Rattle.signs.specs.Signs.{absolute, sign_of}
 

@@ -1,16 +1,12 @@
 -- What each test of a program says of NaN, of the infinities and of the sign.
-use mathlib.Core.Path.{◌≡◌, refl, sym, ap, ◌∙◌, subst}
-use Prim.Native.Nat.{ℕ, ◌+◌, ◌*◌, ◌%◌, ◌<◌, ◌≤◌}
-use native.Mathlib.Nat.{mod-eq_of_lt, add-mod_left}
-use native.Mathlib.Omega.{arith}
-use mathlib.Core.Bool.{Bool, true, false, not, ◌&&◌, cond}
-use borrow.Author.Tests.{eq-eqb, eqb-true, le-ltb, ltb-true}
-use lib.Dec.{T, eqb}
-use lib.IntN.{ℤ}
-use lib.Ieee.{Float, nan, inf, fin, binary64, up, down, neg, lt, eq, ne, fits, is_nan, nan_bits, of_bits, to_bits}
-use lib.Ieee.Bits.{of_bits-to_bits, to_bits-lt, nan_bits_is}
-use lib.Ieee.Compare.{differs_from_itself}
-use lib.Ieee.Fits.{neg-fits}
+use Rattle.std.proofs.Common.{◌≡◌, refl, sym, ap, ◌∙◌, subst, ℕ, ◌+◌, ◌*◌, ◌%◌, ◌<◌, ◌≤◌, mod-eq_of_lt, arith, Bool}
+use Rattle.std.proofs.Common.{true, false, not, ◌&&◌, cond, eq-eqb, eqb-true, le-ltb, ltb-true, T, eqb, ℤ}
+use Rattle.std.specs.Float.{Float, nan, inf, fin, binary64}
+use Rattle.std.specs.Float.Ieee.{up, down, neg, lt, eq, ne, fits, is_nan, nan_bits, of_bits, to_bits}
+use Rattle.std.proofs.Math.Nat.{add-mod_left}
+use Rattle.std.specs.Float.Ieee.Bits.{of_bits-to_bits, to_bits-lt, nan_bits_is}
+use Rattle.std.specs.Float.Ieee.Compare.{differs_from_itself}
+use Rattle.std.specs.Float.Ieee.Fits.{neg-fits}
 use Rattle.signs.specs.Signs.{alike, absolute, infinite, sign_of}
 use Rattle.floats.specs.Operations.{bits, f0, f1}
 
@@ -27,22 +23,34 @@ nan_test (fin false m e) = rw (eq-eqb (m * up e * down e) (m * up e * down e) re
 pub no_nan : (x : Float) → ne x x ≡ false → T (not (is_nan x))
 no_nan x h = rw (← nan_test x, h) tt
 
-never_nan : ne nan nan ≡ false → ⊥
-unfolding is_nan
-never_nan h = no_nan nan h
+-- the constants of f64
+pub infinity_is : bits 0x7ff0_0000_0000_0000 ≡ inf false
+unfolding of_bits
+infinity_is = refl
 
-pub infinite_plus : (x : Float) → eq x (inf false) ≡ true → true ≡ infinite x
+pub negative_infinity_is : bits 0xfff0_0000_0000_0000 ≡ inf true
+unfolding of_bits
+negative_infinity_is = refl
+
+pub nan_is : bits 0x7ff8_0000_0000_0000 ≡ nan
+unfolding of_bits
+nan_is = refl
+
+pub infinite_plus : (x : Float) → eq x (inf false) ≡ true → infinite x ≡ true
 unfolding eq infinite
-infinite_plus nan h = sym h
+infinite_plus nan h = cc
 infinite_plus (inf s) h = refl
-infinite_plus (fin s m e) h = sym h
+infinite_plus (fin s m e) h = cc
 
-pub infinite_minus : (x : Float) → eq x (inf false) ≡ false → eq x (inf true) ≡ infinite x
+pub infinite_minus : (x : Float) → eq x (inf false) ≡ false → infinite x ≡ eq x (inf true)
 unfolding eq infinite
 infinite_minus nan h = refl
 infinite_minus (inf true) h = refl
-infinite_minus (inf false) h = sym h
+infinite_minus (inf false) h = cc
 infinite_minus (fin s m e) h = refl
+
+-- what `is_infinite` takes
+pub ruleset infinity_laws = (infinity_is, negative_infinity_is, infinite_plus, infinite_minus)
 
 -- ---- floats that are alike are equal: values that fit are told apart by their patterns, and there is one NaN
 
@@ -50,7 +58,10 @@ is_nan_law : (x : Float) → ne x x ≡ true → x ≡ nan
 is_nan_law x h = differs_from_itself x (rw h tt)
 
 pub no_number : (x : Float) → is_nan x ≡ true → x ≡ nan
-no_number x h = is_nan_law x (nan_test x ∙ h)
+unfolding is_nan
+no_number nan h = refl
+no_number (inf s) h = cc
+no_number (fin s m e) h = cc
 
 pub alike_same : (a b : Float) → T (fits binary64 a) → T (fits binary64 b) → alike a b ≡ true → a ≡ b
 unfolding alike
@@ -72,9 +83,9 @@ alike_itself a = rw (eq-eqb (to_bits binary64 a) (to_bits binary64 a) refl) (go 
 
 -- ---- the sign is the highest bit of the pattern
 
-pub sign_of_nan : (x : Float) → ne x x ≡ true → x ≡ sign_of x
+pub sign_of_nan : (x : Float) → is_nan x ≡ true → x ≡ sign_of x
 unfolding sign_of
-sign_of_nan x h = rw (is_nan_law x h)
+sign_of_nan x h = rw (no_number x h)
 
 -- the pattern without it
 sign_bit : (m : ℕ) (e : ℤ) → to_bits binary64 (fin true m e) ≡ 9223372036854775808 + to_bits binary64 (fin false m e)
@@ -85,24 +96,24 @@ lower_bits : (m : ℕ) (e : ℤ) → T (fits binary64 (fin false m e)) → to_bi
 unfolding neg
 lower_bits m e p = let k = to_bits-lt binary64 (fin true m e) (neg-fits binary64 (fin false m e) p) in omega (arith, sign_bit m e)
 
-pub absolute_of_nan : (x : Float) → ne x x ≡ true → x ≡ absolute x
+pub absolute_of_nan : (x : Float) → is_nan x ≡ true → x ≡ absolute x
 unfolding absolute
-absolute_of_nan x h = rw (is_nan_law x h)
+absolute_of_nan x h = rw (no_number x h)
 
 sign_cleared_inf : (s : Bool) → bits (to_bits binary64 (inf s) % 9223372036854775808) ≡ inf false
 unfolding of_bits to_bits
 sign_cleared_inf true = refl
 sign_cleared_inf false = refl
 
-absolute_no_nan : (x : Float) → ne x x ≡ false → T (not (is_nan (absolute x)))
+absolute_no_nan : (x : Float) → is_nan x ≡ false → T (not (is_nan (absolute x)))
 unfolding absolute is_nan
-absolute_no_nan nan h = no_nan nan h
+absolute_no_nan nan h = cc
 absolute_no_nan (inf s) h = tt
 absolute_no_nan (fin s m e) h = tt
 
-pub sign_cleared : (x : Float) → ne x x ≡ false → T (fits binary64 x) → bits (to_bits binary64 x % 9223372036854775808) ≡ absolute x
-unfolding absolute neg
-sign_cleared nan h p = absurd (never_nan h)
+pub sign_cleared : (x : Float) → is_nan x ≡ false → T (fits binary64 x) → bits (to_bits binary64 x % 9223372036854775808) ≡ absolute x
+unfolding absolute neg is_nan
+sign_cleared nan h p = cc
 sign_cleared (inf s) h p = sign_cleared_inf s
 sign_cleared (fin true m e) h p =
     let q = neg-fits binary64 (fin true m e) p in
@@ -110,24 +121,27 @@ sign_cleared (fin true m e) h p =
     ∙ of_bits-to_bits binary64 (fin false m e) q
 sign_cleared (fin false m e) h p = ap bits (mod-eq_of_lt (lower_bits m e p)) ∙ of_bits-to_bits binary64 (fin false m e) p
 
-pub cleared_no_nan : (x : Float) → ne x x ≡ false → T (fits binary64 x) → T (not (nan_bits binary64 (to_bits binary64 x % 9223372036854775808)))
+pub cleared_no_nan : (x : Float) → is_nan x ≡ false → T (fits binary64 x) → T (not (nan_bits binary64 (to_bits binary64 x % 9223372036854775808)))
 cleared_no_nan x h p = rw (nan_bits_is, sign_cleared x h p) (absolute_no_nan x h)
 
-pub sign_plus : (x : Float) → ne x x ≡ false → to_bits binary64 x < 9223372036854775808 → f1 ≡ sign_of x
-unfolding sign_of to_bits
-sign_plus nan p h = absurd (never_nan p)
+pub sign_plus : (x : Float) → is_nan x ≡ false → to_bits binary64 x < 9223372036854775808 → f1 ≡ sign_of x
+unfolding sign_of to_bits is_nan
+sign_plus nan p h = cc
 sign_plus (inf true) p h = absurd (omega arith)
 sign_plus (inf false) p h = refl
 sign_plus (fin true m e) p h = absurd (omega arith)
 sign_plus (fin false m e) p h = refl
 
-pub sign_minus : (x : Float) → ne x x ≡ false → T (fits binary64 x) → 9223372036854775808 ≤ to_bits binary64 x → neg f1 ≡ sign_of x
-unfolding sign_of to_bits neg
-sign_minus nan p t h = absurd (never_nan p)
+pub sign_minus : (x : Float) → is_nan x ≡ false → T (fits binary64 x) → 9223372036854775808 ≤ to_bits binary64 x → neg f1 ≡ sign_of x
+unfolding sign_of to_bits neg is_nan
+sign_minus nan p t h = cc
 sign_minus (inf true) p t h = refl
 sign_minus (inf false) p t h = absurd (omega arith)
 sign_minus (fin true m e) p t h = refl
 sign_minus (fin false m e) p t h = let k = to_bits-lt binary64 (fin true m e) (neg-fits binary64 (fin false m e) t) in absurd (omega arith)
+
+-- what `abs` and `signum` take
+pub ruleset sign_bit_laws = (absolute_of_nan, sign_cleared, cleared_no_nan, sign_of_nan, sign_plus, sign_minus)
 
 -- ---- the negation of a negative float is not negative
 

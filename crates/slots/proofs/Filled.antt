@@ -1,13 +1,11 @@
 -- The laws of `filled`: a turn of a loop, slot by slot, and two stretches as one.
-use mathlib.Core.Path.{◌≡◌, refl, sym, ap, ◌∙◌}
-use mathlib.Core.List.{List}
-use mathlib.Core.Logic.{◌⊎◌, inl, inr, ⊎_elim}
-use Prim.Native.Nat.{ℕ, zero, suc, ◌+◌, ◌-◌, ◌≤◌, ◌<◌}
-use native.Mathlib.Nat.{eq-or-lt_of_le, le_of_suc-le-suc, not-suc-le-zero, add-suc, add-zero}
-use native.Mathlib.Numerals.{add-one}
-use native.Mathlib.Omega.{arith}
-use lib.ListN.{length, get_or, set, take, length-set}
-use lib.Seq.{take-set-le, get_or-set_same, get_or-set_other, ext_get_or}
+use Rattle.std.proofs.Common.{◌≡◌, refl, sym, ap, ◌∙◌, List, ◌++◌, ◌⊎◌, inl, inr, ℕ, zero, suc, ◌+◌, ◌-◌, ◌≤◌, ◌<◌}
+use Rattle.std.proofs.Common.{arith, length, get_or, set, take, length-set, get_or-set_same, get_or-set_other, add-suc}
+use Rattle.std.proofs.Common.{add-zero, add-one}
+use Rattle.std.proofs.Math.Logic.{⊎_elim}
+use Rattle.std.proofs.Math.Nat.{eq-or-lt_of_le, le_of_suc-le-suc, not-suc-le-zero}
+use Rattle.std.proofs.Math.Seq.{take-set-le, ext_get_or}
+use Rattle.std.proofs.lemmas.List.{set-append_left, set-append_right}
 use Rattle.floats.proofs.Tests.{lt_or_ge}
 use Rattle.slots.specs.Slots.{filled}
 
@@ -128,3 +126,25 @@ filled_under d value a b l h =
         let e : 0 + i ≡ a + (i - a) = omega arith in
         filled_out value 0 0 a (filled value a a b l) d (0 + i) (inr (omega arith))
         ∙ rw e (filled_in value a a b l d (i - a) (omega arith) h)
+
+-- ---- a list in two parts: a stretch within one of them is a stretch of the whole
+
+module _ {A : Type 0} (value : ℕ → A) (from at : ℕ) (front back : List A) where
+  pub filled_front : (n : ℕ) → at + n ≤ length front → filled value from at n front ++ back ≡ filled value from at n (front ++ back)
+  unfolding filled
+  filled_front zero h = refl
+  filled_front (suc n) h =
+      let t = filled value from at n front in
+      let inside : at + n < length t = omega (arith, length_filled value from at n front, add-suc at n) in
+      sym (set-append_left t back (at + n) (value (from + n)) inside)
+      ∙ ap (λ (l : List A). set l (at + n) (value (from + n))) (filled_front n (omega (arith, add-suc at n)))
+
+  pub filled_back : (n : ℕ) → front ++ filled value from at n back ≡ filled value from (length front + at) n (front ++ back)
+  unfolding filled
+  filled_back zero = refl
+  filled_back (suc n) =
+      let m = length front in
+      let e : m + at + n - m ≡ at + n = omega arith in
+      ap (λ (i : ℕ). front ++ set (filled value from at n back) i (value (from + n))) (sym e)
+      ∙ sym (set-append_right front (filled value from at n back) m (m + at + n) (value (from + n)) refl (omega arith))
+      ∙ ap (λ (l : List A). set l (m + at + n) (value (from + n))) (filled_back n)

@@ -1,9 +1,6 @@
 -- What ends the calls: the falling number of their cycle.
-use mathlib.Core.Path.{◌≡◌, subst}
-use mathlib.Core.Bool.{true}
-use Prim.Native.Nat.{ℕ, ◌<◌}
-use lib.Dec.{lit<}
-use lib.Ieee.{Float, lt, neg}
+use Rattle.std.proofs.Common.{◌≡◌, subst, true, ℕ, ◌<◌, lit<, Float}
+use Rattle.std.specs.Float.Ieee.{lt, neg}
 use Rattle.floats.specs.Operations.{f0}
 use Rattle.signs.proofs.Signs.{negated_not_below}
 use Rattle.start_sums_large.specs.StartSums.{falling_number}

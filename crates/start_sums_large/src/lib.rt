@@ -17,25 +17,27 @@ ghost use Rattle.start_sums_large.specs.StartSums.{dvla_sum, dvla_expansion, dvl
 ghost use Rattle.start_sums_large.specs.StartSums.{vvla_expansion, vvla_joined, vvla};
 
 use exponential::exp;
-use floats::PI;
 use gamma::gamma2;
 use logarithm::pow;
 use signs::abs;
+use std::f64::consts::PI;
 use trigonometric::{cos, sin};
 
-// The source's constant, under its name.
+// The source's constant, under its name; the library has none.
 pub const SQRT_FRAC_2_PI: f64 = 0.7978845608028654;
 
 // The sum of D's expansion, of at most 16 terms after the first.
+// V's sum differs from it in the term and in how many there are; one sum over a closure is not tried yet.
+#[tactic(auto, using(floats::proofs::Loops::done), unfolding(crate::specs::StartSums::dvla_sum))]
 fn dvla_sum(x: f64, va: f64) -> f64
     ensures { result ≡ (dvla_sum x va).1 }
 {
     let mut r = 1.0;
     let mut pd = 1.0;
     for k in 1..=16u32 {
-        let kf = k as f64;
+        let kf = f64::from(k);
         r = -0.5 * r * (2.0 * kf - va - 1.0) * (2.0 * kf - va - 2.0) / (kf * x * x);
-        pd = pd + r;
+        pd += r;
         if abs(r / pd) < 1e-12 {
             return pd;
         }
@@ -44,15 +46,16 @@ fn dvla_sum(x: f64, va: f64) -> f64
 }
 
 // The sum of V's expansion, of at most 18 terms after the first.
+#[tactic(auto, using(floats::proofs::Loops::done), unfolding(crate::specs::StartSums::vvla_sum))]
 fn vvla_sum(x: f64, va: f64) -> f64
     ensures { result ≡ (vvla_sum x va).1 }
 {
     let mut r = 1.0;
     let mut pv = 1.0;
     for k in 1..=18u32 {
-        let kf = k as f64;
+        let kf = f64::from(k);
         r = 0.5 * r * (2.0 * kf + va - 1.0) * (2.0 * kf + va) / (kf * x * x);
-        pv = pv + r;
+        pv += r;
         if abs(r / pv) < 1e-12 {
             return pv;
         }
@@ -61,6 +64,7 @@ fn vvla_sum(x: f64, va: f64) -> f64
 }
 
 // D's expansion, for an argument of either sign.
+#[tactic(auto, unfolding(crate::specs::StartSums::dvla_expansion))]
 fn dvla_expansion(x: f64, va: f64) -> f64
     ensures { result ≡ dvla_expansion x va }
 {
@@ -69,6 +73,7 @@ fn dvla_expansion(x: f64, va: f64) -> f64
 }
 
 // V's expansion, for an argument of either sign.
+#[tactic(auto, unfolding(crate::specs::StartSums::vvla_expansion))]
 fn vvla_expansion(x: f64, va: f64) -> f64
     ensures { result ≡ vvla_expansion x va }
 {
@@ -77,6 +82,7 @@ fn vvla_expansion(x: f64, va: f64) -> f64
 }
 
 // D at a negative argument: pd is its expansion there, vl is V at the positive one.
+#[tactic(auto, unfolding(crate::specs::StartSums::dvla_joined))]
 fn dvla_joined(va: f64, pd: f64, vl: f64) -> f64
     ensures { result ≡ dvla_joined va pd vl }
 {
@@ -84,6 +90,7 @@ fn dvla_joined(va: f64, pd: f64, vl: f64) -> f64
 }
 
 // V at a negative argument: pv is its expansion there, pdl is D at the positive one.
+#[tactic(auto, unfolding(crate::specs::StartSums::vvla_joined))]
 fn vvla_joined(va: f64, pv: f64, pdl: f64) -> f64
     ensures { result ≡ vvla_joined va pv pdl }
 {
@@ -92,8 +99,9 @@ fn vvla_joined(va: f64, pv: f64, pdl: f64) -> f64
     dsl * gamma2(-va) / PI * pdl - cos(PI * va) * pv
 }
 
-// D for large arguments.
+// D for large arguments. D and V are two formulas that call each other, and no instances of one.
 #[cycle(dvla_vvla)]
+#[tactic(auto, using(crate::proofs::Counts::falls, crate::specs::StartSums::Open::dvla_cases))]
 pub fn dvla(x: f64, va: f64) -> f64
     ensures { result ≡ dvla x va }
 {
@@ -106,6 +114,7 @@ pub fn dvla(x: f64, va: f64) -> f64
 
 // V for large arguments.
 #[cycle(dvla_vvla)]
+#[tactic(auto, using(crate::proofs::Counts::falls, crate::specs::StartSums::Open::vvla_cases))]
 pub fn vvla(x: f64, va: f64) -> f64
     ensures { result ≡ vvla x va }
 {

@@ -1,9 +1,8 @@
 -- What the crates above may know of dvsa and vvsa beside their contracts.
-use mathlib.Core.Path.{◌≡◌, refl, ap, ◌∙◌}
-use mathlib.Core.List.{List}
-use Prim.Native.Nat.{ℕ}
-use lib.ListN.{get_or}
-use lib.Ieee.{Float, nan, mul, neg, eq, of_bits}
+use Rattle.std.proofs.Common.{◌≡◌, refl, ap, ◌∙◌, List, ℕ, get_or, Float}
+use Rattle.std.specs.Float.{nan}
+use Rattle.std.specs.Float.Ieee.{mul, neg, of_bits}
+use Rattle.std.specs.Float.Ieee.{eq}
 use Rattle.floats.specs.Operations.{f0, f1}
 use Rattle.exponential.proofs.Laws.{exp_minus_zero}
 use Rattle.start_sums_small.specs.SmallSums.{dvsa, vvsa}

@@ -1,15 +1,11 @@
 -- At the poles of Γ: where dvsa answers 0 (01, "Bottom rungs"), and what keeps 1e300, gamma2's answer there, out of V (01, "Slips").
-use mathlib.Core.Path.{◌≡◌, refl, sym, ap, ◌∙◌}
-use mathlib.Core.Bool.{Bool, true, false, ◌&&◌, cond}
-use mathlib.Core.Logic.{◌⊎◌, inl, inr}
-use Prim.Native.Nat.{ℕ, zero, suc, ◌+◌, ◌*◌, ◌%◌, ◌^◌, ◌≤◌, ◌<◌}
-use native.Mathlib.Omega.{arith}
-use lib.Dec.{eqb, lit≤}
-use lib.IntN.{ℤ, pos, neg_ℤ, nat_abs}
-use lib.Ieee.{Float, binary64, add, mul, eq, neg, of_bits}
-use lib.Ieee.Exact.{HasValue}
-use lib.Ieee.Scale.{round_same}
-use borrow.Author.Tests.{eq-eqb, lt-ltb}
+use Rattle.std.proofs.Common.{◌≡◌, refl, sym, ap, ◌∙◌, Bool, true, false, ◌&&◌, cond, ◌⊎◌, inl, inr, ℕ, zero, suc, ◌+◌}
+use Rattle.std.proofs.Common.{◌*◌, ◌%◌, ◌^◌, ◌≤◌, ◌<◌, arith, eqb, lit≤, ℤ, pos, neg_ℤ, nat_abs, Float, eq-eqb, lt-ltb}
+use Rattle.std.specs.Float.{binary64}
+use Rattle.std.specs.Float.Ieee.{add, mul, neg, of_bits}
+use Rattle.std.specs.Float.Ieee.{eq}
+use Rattle.std.specs.Float.Ieee.Exact.{HasValue}
+use Rattle.std.specs.Float.Ieee.Scale.{round_same}
 use Rattle.floats.specs.Operations.{◌⊕◌, ◌⊖◌, ◌⊗◌, ◌⊘◌, float, whole, f0, f½, f1, f2}
 use Rattle.floats.proofs.Tests.{one, lt_or_ge}
 use Rattle.floats.proofs.Values.{zero_value, neg_value, of_int_pos, of_int_value}

@@ -1,8 +1,6 @@
 -- Values of the series of dvsa and vvsa, turn by turn. gamma2 is shut here, so each turn takes its value from the list of examples of `gamma`.
-use mathlib.Core.Path.{◌≡◌, ap, ◌∙◌}
-use mathlib.Core.Bool.{true, false}
-use Prim.Native.Nat.{ℕ}
-use lib.Ieee.{Float, add, sub, mul, div, neg, lt, of_bits, of_int}
+use Rattle.std.proofs.Common.{◌≡◌, ap, ◌∙◌, true, false, ℕ, Float}
+use Rattle.std.specs.Float.Ieee.{add, sub, mul, div, neg, lt, of_bits, of_int}
 use Rattle.floats.specs.Operations.{bits, decimal, f0, f1}
 use Rattle.signs.specs.Signs.{absolute}
 use Rattle.floats.specs.Loops.{Turn, count_up}

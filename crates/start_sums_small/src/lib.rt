@@ -18,29 +18,24 @@ ghost use Rattle.std.specs.Prelude.{◌≡◌};
 ghost use Rattle.start_sums_small.specs.SmallSums.{is_pole, dvsa_at_zero, dvsa_sum, dvsa, vvsa_at_zero, vvsa_sum, vvsa};
 
 use exponential::{exp, exp2};
-use floats::PI;
 use gamma::gamma2;
 use signs::abs;
+use std::f64::consts::{PI, SQRT_2, TAU};
 use trigonometric::sin;
 
-// The source's constants, under its names.
-const TAU: f64 = 6.283185307179586;
-
-const SQRT_2: f64 = 1.4142135623730951;
-
+// The source's constant, under its name: the float below the one that is nearest to √π.
 const SQRT_PI: f64 = 1.7724538509055159;
 
 // Whether y is 0 or a negative whole number of i32's range.
+#[tactic(auto, unfolding(crate::specs::SmallSums::is_pole))]
 fn is_pole(y: f64) -> bool
     ensures { result ≡ is_pole y }
 {
-    if y <= 0.0 {
-        return y == truncation::to_i32(y) as f64;
-    }
-    false
+    y <= 0.0 && y == f64::from(truncation::to_i32(y))
 }
 
 // D at x = 0.
+#[tactic(auto, unfolding(crate::specs::SmallSums::dvsa_at_zero))]
 fn dvsa_at_zero(va: f64) -> f64
     ensures { result ≡ dvsa_at_zero va }
 {
@@ -52,17 +47,19 @@ fn dvsa_at_zero(va: f64) -> f64
 }
 
 // The series of D, from its first term g0.
+// Of dvsa and vvsa each has a term, a state and a test of its own: one loop over a closure is no plainer.
+#[tactic(auto, using(floats::proofs::Loops::done), unfolding(crate::specs::SmallSums::dvsa_sum))]
 fn dvsa_sum(x: f64, va: f64, g0: f64) -> f64
     ensures { result ≡ (dvsa_sum x va g0).1 }
 {
     let mut pd = g0;
     let mut r = 1.0;
     for m in 1..=250u32 {
-        let mf = m as f64;
+        let mf = f64::from(m);
         let gm = gamma2(0.5 * (mf - va));
         r = -r * SQRT_2 * x / mf;
         let r1 = gm * r;
-        pd = pd + r1;
+        pd += r1;
         if abs(r1) < abs(pd) * 1e-15 {
             return pd;
         }
@@ -71,6 +68,7 @@ fn dvsa_sum(x: f64, va: f64, g0: f64) -> f64
 }
 
 // D for small arguments.
+#[tactic(auto, using(crate::specs::SmallSums::Open::dvsa_cases))]
 pub fn dvsa(x: f64, va: f64) -> f64
     ensures { result ≡ dvsa x va }
 {
@@ -85,20 +83,19 @@ pub fn dvsa(x: f64, va: f64) -> f64
 }
 
 // V at x = 0.
+#[tactic(auto, unfolding(crate::specs::SmallSums::vvsa_at_zero))]
 fn vvsa_at_zero(va: f64) -> f64
     ensures { result ≡ vvsa_at_zero va }
 {
     let va0 = 1.0 + 0.5 * va;
-    if is_pole(va0) {
-        return 0.0;
-    }
-    if va == 0.0 {
+    if is_pole(va0) || va == 0.0 {
         return 0.0;
     }
     exp2(-0.5 * va) * sin(va0 * PI) / gamma2(va0)
 }
 
 // The series of V, from its first term pv0. The stop test leaves the weight out.
+#[tactic(auto, using(floats::proofs::Loops::done), unfolding(crate::specs::SmallSums::vvsa_sum))]
 fn vvsa_sum(x: f64, va: f64, sv: f64, pv0: f64) -> f64
     ensures { result ≡ (vvsa_sum x va sv pv0).2 }
 {
@@ -106,12 +103,12 @@ fn vvsa_sum(x: f64, va: f64, sv: f64, pv0: f64) -> f64
     let mut r = 1.0;
     let mut fac = 1.0;
     for m in 1u32..=250 {
-        let mf = m as f64;
+        let mf = f64::from(m);
         let gm = gamma2(0.5 * (mf - va));
         r = r * SQRT_2 * x / mf;
         fac = -fac;
         let gw = fac * sv + 1.0;
-        pv = pv + gw * r * gm;
+        pv += gw * r * gm;
         if abs(r * gm / pv) < 1e-15 {
             return pv;
         }
@@ -120,6 +117,7 @@ fn vvsa_sum(x: f64, va: f64, sv: f64, pv0: f64) -> f64
 }
 
 // V for small arguments.
+#[tactic(auto, using(crate::specs::SmallSums::Open::vvsa_cases))]
 pub fn vvsa(x: f64, va: f64) -> f64
     ensures { result ≡ vvsa x va }
 {

@@ -46,7 +46,7 @@ mantissa_at part v x =
     (cond (part == 1) (mantissas v x).1 (mantissas v x).2)
 
 -- of a request: place 64 is the refusal number, 65 the value, 66 the derivative
-unfoldable pub request_at : ℕ → ℕ → Option (Float × Float) → Float
+abbrev pub request_at : ℕ → ℕ → Option (Float × Float) → Float
 request_at place refusal answer = cond (place == 64) (whole refusal) (part_of answer place)
 
 -- the series of number n at a and x

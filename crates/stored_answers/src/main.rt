@@ -27,20 +27,16 @@ fn replay(s: &[u8]) -> Tally
     ensures all { result.records ≡ length s.now / 32 }
     ensures counted { result.differences ≡ differing s.now (length s.now / 32) + left_over s.now }
 {
-    let mut records: u64 = 0;
-    let mut differences: u64 = 0;
-    let mut at = 0;
-    while 32 <= s.len() - at {
-        let end = at + 32;
-        differences += one_unless(replayed::is_alike(&s[at..end]));
-        records += 1;
-        at = end;
+    let (records, rest) = s.as_chunks::<32>();
+    let mut tally = Tally {
+        records: 0,
+        differences: one_unless(rest.is_empty()),
+    };
+    for record in records {
+        tally.records += 1;
+        tally.differences += one_unless(replayed::is_alike(record));
     }
-    let rest = one_unless(s.len() % 32 == 0);
-    Tally {
-        records: records,
-        differences: differences + rest,
-    }
+    tally
 }
 
 // Replays one file and prints its line. No contract can say what is read.

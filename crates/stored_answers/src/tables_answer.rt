@@ -1,4 +1,5 @@
-// The table calls by their numbers.
+// The table calls by their numbers. A number and a place are digits of the stored files' format (README.md), so each
+// stays a number up to the test that reads it.
 
 ghost use Rattle.std.specs.Prelude.{◌≡◌, if◌then◌else◌, nat_eq};
 ghost use Rattle.floats.specs.Operations.{whole};
@@ -6,67 +7,59 @@ ghost use Rattle.slots.specs.Slots.{slot};
 ghost use Rattle.answer.specs.Answer.{refusal_of, pair_of};
 ghost use Rattle.stored_answers.specs.Tables.{junk, part_of, place_after, with_junk, tables_answer};
 
+use answer::Answer;
 use floats::Function;
 
 // What slot k holds before a call.
+#[tactic(auto, using(crate::proofs::Values::named_values), unfolding(crate::specs::Tables::junk))]
 fn junk(k: usize) -> f64
     ensures { result ≡ junk k }
 {
     match k % 7 {
-        0 => 0.0 / 0.0,
+        0 => f64::NAN,
         1 => -0.0,
-        2 => 1.0 / 0.0,
+        2 => f64::INFINITY,
         3 => 1.5,
-        4 => -1.0 / 0.0,
+        4 => f64::NEG_INFINITY,
         5 => 5e-324,
         _ => -1e300,
     }
 }
 
 // Junk in every slot.
+#[tactic(auto, unfolding(crate::specs::Tables::with_junk, slots::specs::Slots::filled))]
 fn fill_junk(t: &mut [f64])
     ensures { t.new ≡ with_junk t.old }
 {
-    let end = t.len();
-    for k in 0..end {
-        t[k] = junk(k);
+    for (k, slot) in t.iter_mut().enumerate() {
+        *slot = junk(k);
     }
 }
 
 // A slot; NaN past the end.
+#[tactic(auto, using(crate::proofs::Values::named_values), unfolding(slots::specs::Slots::slot))]
 fn slot_at(t: &[f64], k: usize) -> f64
     ensures { result ≡ slot t.now k }
 {
-    if k < t.len() {
-        return t[k];
-    }
-    0.0 / 0.0
+    t.get(k).copied().unwrap_or(f64::NAN)
 }
 
 // The refusal number, the value or the derivative of an answer.
-pub fn part_of(a: tables::Answer, place: u64) -> f64
+#[tactic(auto, using(crate::proofs::Values::named_values), unfolding(crate::specs::Tables::part_of, answer::specs::Answer::refusal_of, answer::specs::Answer::pair_of))]
+pub fn part_of(a: Answer, place: u64) -> f64
     ensures { result ≡ (if nat_eq place 64 then whole (refusal_of a) else part_of (pair_of a) place) }
 {
-    match a {
-        tables::Answer::Pair(value, derivative) => {
-            if place == 64 {
-                return 0.0;
-            }
-            if place == 65 {
-                return value;
-            }
-            derivative
-        }
-        tables::Answer::Refused(number) => {
-            if place == 64 {
-                return number as f64;
-            }
-            0.0 / 0.0
-        }
+    match (place, a) {
+        (64, Ok(_)) => 0.0,
+        (64, Err(refusal)) => f64::from(u32::from(refusal)),
+        (65, Ok(pair)) => pair.value,
+        (_, Ok(pair)) => pair.derivative,
+        (_, Err(_)) => f64::NAN,
     }
 }
 
 // What stands at a place after a call.
+#[tactic(auto, unfolding(crate::specs::Tables::place_after))]
 fn place_after(t: &mut [f64], function: Function, place: u64, v: f64, x: f64) -> f64
     ensures { result ≡ place_after function place v x t.old }
 {
@@ -86,17 +79,17 @@ fn place_after_junk(t: &mut [f64], function: Function, place: u64, v: f64, x: f6
 }
 
 // Number n at order v and argument x.
+#[tactic(auto, using(crate::proofs::Values::named_values), unfolding(crate::specs::Tables::tables_answer))]
 pub fn answer_of(n: u64, v: f64, x: f64) -> f64
     ensures { result ≡ tables_answer n v x }
 {
     let mut t = [0.0; 63];
-    let slots = (n / 65536) as usize;
-    if slots > 63 {
-        return 0.0 / 0.0;
-    }
-    let place = n / 256 % 256;
-    if n % 256 == 24 {
-        return place_after_junk(&mut t[..slots], Function::D, place, v, x);
-    }
-    place_after_junk(&mut t[..slots], Function::V, place, v, x)
+    let Some(t) = t.get_mut(..(n / 65536) as usize) else {
+        return f64::NAN;
+    };
+    let function = match n % 256 {
+        24 => Function::D,
+        _ => Function::V,
+    };
+    place_after_junk(t, function, n / 256 % 256, v, x)
 }

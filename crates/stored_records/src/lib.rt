@@ -1,13 +1,14 @@
-// A record of a data file: the number of a function, x, y and the answer, in words of eight bytes, the lowest first. What
-// lies past the end counts as 0.
+// A record of a data file: the number of a function, x, y and the answer, in words of eight bytes, the lowest first.
+// What lies past the end counts as 0.
 
 #![tactic(auto)]
 
-ghost use Rattle.std.specs.Prelude.{◌≡◌, ◌<◌, ◌^◌, get_or};
-ghost use Rattle.std.specs.Float.Ieee.{of_bits};
-ghost use Rattle.std.specs.Float.{binary64};
+ghost use Rattle.std.specs.Prelude.{◌≡◌, get_or};
 ghost use Rattle.floats.specs.Operations.{bits};
-ghost use Rattle.stored_records.specs.Words.{half_at, word_at, missed};
+ghost use Rattle.stored_records.specs.Words.{word_at, missed};
+
+use std::array;
+use std::num::f64_from_bits_with_nan;
 
 #[derive(Clone, Copy)]
 pub struct Record {
@@ -18,48 +19,25 @@ pub struct Record {
 }
 
 // The byte at a place.
-fn byte(s: &[u8], at: usize) -> u64
-    ensures value { result ≡ get_or s.now at 0 }
-    ensures bound { result < 256 }
+fn byte(s: &[u8], at: usize) -> u8
+    ensures { result ≡ get_or s.now at 0 }
 {
-    if at < s.len() {
-        return s[at] as u64;
-    }
-    0
-}
-
-// Four bytes as a number.
-fn half(s: &[u8], at: usize) -> u64
-    requires { at < 2 ^ 32 }
-    ensures value { result ≡ half_at s.now at }
-    ensures bound { result < 2 ^ 32 }
-{
-    byte(s, at) + 256 * byte(s, at + 1) + 65536 * byte(s, at + 2) + 16777216 * byte(s, at + 3)
+    s.get(at).copied().unwrap_or(0)
 }
 
 // Eight bytes as a number. `at` is narrow, so that the places add up.
 fn word(s: &[u8], at: u16) -> u64
     ensures { result ≡ word_at s.now at }
 {
-    let place = at as usize;
-    half(s, place) + 4294967296 * half(s, place + 4)
+    let at = usize::from(at);
+    u64::from_le_bytes(array::from_fn(|k| byte(s, at + k)))
 }
 
-// The float with these bits; each NaN pattern is NaN.
-fn float(bits: u64) -> f64
-    ensures { result ≡ of_bits binary64 bits }
-{
-    if bits % 9223372036854775808 > 9218868437227405312 {
-        return 0.0 / 0.0;
-    }
-    f64::from_bits(bits)
-}
-
-// The float whose bits stand at a place.
+// The float whose bits stand at a place; each NaN pattern is NaN.
 fn number(s: &[u8], at: u16) -> f64
-    ensures { result ≡ of_bits binary64 (word_at s.now at) }
+    ensures { result ≡ bits (word_at s.now at) }
 {
-    float(word(s, at))
+    f64_from_bits_with_nan(word(s, at))
 }
 
 // The four words of a record.
@@ -81,5 +59,5 @@ pub fn read_record(s: &[u8]) -> Record
 pub fn one_unless(passed: bool) -> u64
     ensures { result ≡ missed passed }
 {
-    if passed { 0 } else { 1 }
+    u64::from(!passed)
 }

@@ -2,7 +2,7 @@
 -- scaled").
 use Rattle.std.specs.Prelude.{List, ℕ, ◌+◌, ◌*◌, Bool, ◌&&◌, cond, eqb, leb, length, Float}
 use Rattle.floats.specs.declared.Function.{Function}
-use Rattle.rungs.specs.declared.Sequence.{Sequence}
+use Rattle.order.specs.declared.Sequence.{Sequence}
 use Rattle.recurrence.specs.Recurrence.{own_rung_two}
 use Rattle.rungs.specs.ColumnValues.{value, derivative_at}
 use Rattle.slots.specs.Slots.{filled}

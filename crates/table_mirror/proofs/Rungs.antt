@@ -1,11 +1,7 @@
 -- D's rungs from order 0 on with no fraction, at x and at −x: by induction over the recurrence, and their derivatives.
-use mathlib.Core.Path.{◌≡◌, refl, sym, ap, ◌∙◌}
-use mathlib.Core.Logic.{◌⊎◌, inl, inr}
-use Prim.Native.Nat.{ℕ, zero, suc, ◌+◌}
-use native.Mathlib.Numerals.{add-one}
-use mathlib.Core.Bool.{Bool, true, false, not}
-use lib.Dec.{T}
-use lib.Ieee.{Float, binary64, neg, eq}
+use Rattle.std.proofs.Common.{◌≡◌, refl, sym, ap, ◌∙◌, ◌⊎◌, inl, inr, ℕ, zero, suc, ◌+◌, add-one, Bool, true, false}
+use Rattle.std.proofs.Common.{not, T, Float}
+use Rattle.std.specs.Float.Ieee.{binary64, neg, eq}
 use Rattle.floats.specs.Operations.{◌⊕◌, ◌⊖◌, ◌⊗◌, whole, f0, f1, f¼}
 use Rattle.floats.specs.declared.Function.TheVariants.{D}
 use Rattle.floats.proofs.Opposites.{square_same}

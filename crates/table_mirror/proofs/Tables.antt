@@ -1,17 +1,10 @@
 -- The mirror check on the slots of the table call and on its answer.
-use mathlib.Core.Path.{◌≡◌, refl, sym, ap, ◌∙◌, subst}
-use mathlib.Core.Logic.{◌⊎◌, inl, inr}
-use mathlib.Core.List.{List}
-use mathlib.Core.Option.{some}
-use mathlib.Core.Bool.{true, false, not}
-use Prim.Native.Nat.{ℕ, suc, ◌+◌, ◌-◌, ◌*◌, ◌%◌, ◌≤◌, ◌<◌}
-use native.Mathlib.Numerals.{add-one}
-use native.Mathlib.Omega.{arith}
-use lib.Dec.{T, eqb}
-use lib.ListN.{length, get_or}
-use lib.Ieee.{Float, nan, inf, fin, binary64, neg, eq, ne, fits, is_nan, of_bits}
-use lib.Ieee.Bits.{is_true, of_bits-fits}
-use lib.Ieee.Fits.{neg-fits}
+use Rattle.std.proofs.Common.{◌≡◌, refl, sym, ap, ◌∙◌, subst, ◌⊎◌, inl, inr, List, true, false, not, ℕ, suc, ◌+◌, ◌-◌}
+use Rattle.std.proofs.Common.{◌*◌, ◌%◌, ◌≤◌, ◌<◌, add-one, arith, T, eqb, length, get_or, Float}
+use Rattle.std.proofs.Math.Option.{some}
+use Rattle.std.specs.Float.Ieee.{nan, inf, fin, binary64, neg, eq, ne, fits, is_nan, of_bits}
+use Rattle.std.specs.Float.Ieee.Bits.{is_true, of_bits-fits}
+use Rattle.std.specs.Float.Ieee.Fits.{neg-fits}
 use Rattle.floats.specs.Operations.{f0}
 use Rattle.floats.specs.declared.Function.TheVariants.{D}
 use Rattle.floats.proofs.Booleans.{not_true, not_false}
@@ -26,7 +19,7 @@ use Rattle.order.specs.Whole.{WholeOrder, limits, WholeParts}
 use Rattle.order.proofs.Whole.{whole_order, whole_parts}
 use Rattle.derivatives.specs.Derivatives.{derivative}
 use Rattle.branches.proofs.Laws.{D_forward}
-use Rattle.rungs.specs.declared.Sequence.{Sequence}
+use Rattle.order.specs.declared.Sequence.{Sequence}
 use Rattle.rungs.specs.Rungs.{rung}
 use Rattle.rungs.proofs.Laws.{value_forward, derivative_at_law}
 use Rattle.slots.specs.Slots.{slot}

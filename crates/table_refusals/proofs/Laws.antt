@@ -1,9 +1,6 @@
 -- The refusal by the outcomes of its tests.
-use mathlib.Core.Path.{◌≡◌, refl, sym, ◌∙◌}
-use mathlib.Core.Bool.{Bool, true, false, ◌||◌, cond}
-use Prim.Native.Nat.{ℕ}
-use native.Mathlib.Omega.{arith}
-use lib.Ieee.{Float, is_nan}
+use Rattle.std.proofs.Common.{◌≡◌, refl, sym, ◌∙◌, Bool, true, false, ◌||◌, cond, ℕ, arith, Float}
+use Rattle.std.specs.Float.Ieee.{is_nan}
 use Rattle.order.specs.Order.{too_large}
 use Rattle.table_refusals.specs.Refusals.{refusal_by}
 use Rattle.table_refusals.specs.Refusals.Open.{refusal_by_is}

@@ -3,25 +3,25 @@
 #![tactic(auto)]
 
 ghost use Rattle.std.specs.Prelude.{◌≡◌};
+ghost use Rattle.answer.specs.Answer.{refusal_of};
 ghost use Rattle.table_refusals.specs.Refusals.{refusal_by};
 
+use answer::Refusal;
 use signs::is_nan;
 
-// The number of a request's refusal, 0 where there is none; `short` says whether a table is too short for it.
-pub fn refusal_by(v: f64, x: f64, short: bool) -> u8
-    ensures { result ≡ refusal_by v x short }
+// Whether a request is refused; `short` says whether a table is too short for it, which each caller tests in its own
+// way.
+pub fn check(v: f64, x: f64, short: bool) -> Result<(), Refusal>
+    ensures { refusal_of result ≡ refusal_by v x short }
 {
-    if is_nan(v) {
-        return 1;
-    }
-    if is_nan(x) {
-        return 1;
+    if is_nan(v) || is_nan(x) {
+        return Err(Refusal::NotANumber);
     }
     if order::too_large(v) {
-        return 2;
+        return Err(Refusal::OrderTooLarge);
     }
     if short {
-        return 3;
+        return Err(Refusal::TableTooShort);
     }
-    0
+    Ok(())
 }

@@ -1,16 +1,8 @@
 -- What a request is refused, leaves and answers, from what its parts do.
-use mathlib.Core.Path.{◌≡◌, sym, ◌∙◌}
-use mathlib.Core.List.{List}
-use mathlib.Core.Logic.{inl}
-use mathlib.Core.Option.{Option, some, none}
-use mathlib.Core.Bool.{Bool, false}
-use Prim.Native.Nat.{ℕ, ◌+◌, ◌-◌, ◌*◌, ◌≤◌, ◌<◌}
-use native.Mathlib.Nat.{zero-add}
-use native.Mathlib.Omega.{arith}
-use borrow.Author.Tests.{eq-eqb, ne_eqb, le-ltb, ltb-false}
-use lib.Dec.{ltb}
-use lib.ListN.{length}
-use lib.Ieee.{Float, nan, is_nan}
+use Rattle.std.proofs.Common.{◌≡◌, sym, ◌∙◌, List, inl, Bool, false, ℕ, ◌+◌, ◌-◌, ◌*◌, ◌≤◌, ◌<◌, zero-add}
+use Rattle.std.proofs.Common.{arith, eq-eqb, ne_eqb, le-ltb, ltb-false, ltb, length, Float}
+use Rattle.std.proofs.Math.Option.{Option, some, none}
+use Rattle.std.specs.Float.Ieee.{nan, is_nan}
 use Rattle.order.specs.Order.{too_large, below, shifted, fraction_of, top_rung, num}
 use Rattle.order.specs.Facts.{Split}
 use Rattle.order.proofs.Laws.{num_least}

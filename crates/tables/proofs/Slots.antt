@@ -1,13 +1,7 @@
 -- The table call slot by slot, from the laws of `filled`.
-use mathlib.Core.Path.{◌≡◌, refl, sym, ◌∙◌}
-use mathlib.Core.List.{List}
-use mathlib.Core.Logic.{◌⊎◌, inl, inr}
-use mathlib.Core.Bool.{true}
-use Prim.Native.Nat.{ℕ, ◌+◌, ◌-◌, ◌≤◌, ◌<◌}
-use native.Mathlib.Omega.{arith}
-use lib.Dec.{T}
-use lib.ListN.{length}
-use lib.Ieee.{Float, nan, binary64, fits}
+use Rattle.std.proofs.Common.{◌≡◌, refl, sym, ◌∙◌, List, ◌⊎◌, inl, inr, true, ℕ, ◌+◌, ◌-◌, ◌≤◌, ◌<◌, arith, T, length}
+use Rattle.std.proofs.Common.{Float}
+use Rattle.std.specs.Float.Ieee.{nan, binary64, fits}
 use Rattle.order.specs.Order.{below, shifted, fraction_of, top_rung, num}
 use Rattle.order.specs.Facts.{Split}
 use Rattle.order.proofs.Facts.{split_facts}

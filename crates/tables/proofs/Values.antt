@@ -1,13 +1,9 @@
 -- 01's examples of the table calls, as laws: P5 to P10 and P12. The parts of each order and the rungs at x = 0 are computed in `order` and `rungs`.
 --
-use mathlib.Core.Path.{◌≡◌, refl, ap, ◌∙◌}
-use mathlib.Core.Bool.{Bool, true, false, cond}
-use mathlib.Core.List.{[], ◌∷◌}
-use mathlib.Core.Option.{some}
-use Prim.Native.Nat.{ℕ, ◌+◌, ◌-◌, ◌*◌}
-use borrow.Author.Tests.{eq-eqb}
-use lib.Dec.{ltb}
-use lib.Ieee.{Float, neg, is_nan, of_bits}
+use Rattle.std.proofs.Common.{◌≡◌, refl, ap, ◌∙◌, Bool, true, false, cond, [], ◌∷◌, ℕ, ◌+◌, ◌-◌, ◌*◌, eq-eqb, ltb}
+use Rattle.std.proofs.Common.{Float}
+use Rattle.std.proofs.Math.Option.{some}
+use Rattle.std.specs.Float.Ieee.{neg, is_nan, of_bits}
 use Rattle.floats.specs.Operations.{bits, decimal, f0, f1}
 use Rattle.order.specs.Order.{f1000, below, shifted, fraction_of, top_rung, num}
 use Rattle.order.specs.Order.Examples.{Parts, parts}
@@ -22,7 +18,7 @@ use Rattle.recurrence.proofs.Values.{V_own_two}
 use Rattle.derivatives.proofs.Values.{D_derivative_0, D_derivative_1, D_derivative_2, D_derivative_4}
 use Rattle.branches.specs.declared.Branch.TheVariants.{Forward}
 use Rattle.branches.specs.Branches.{branch_of}
-use Rattle.rungs.specs.declared.Sequence.{Sequence}
+use Rattle.order.specs.declared.Sequence.{Sequence}
 use Rattle.rungs.specs.Rungs.{rung}
 use Rattle.rungs.proofs.Laws.{value_forward, derivative_at_law}
 use Rattle.branches.proofs.Laws.{D_forward, V_forward}

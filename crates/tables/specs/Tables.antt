@@ -6,7 +6,7 @@ use Rattle.answer.specs.Answer.{answer_by}
 use Rattle.order.specs.Order.{below, shifted, fraction_of, top_rung, num}
 use Rattle.table_refusals.specs.Refusals.{refusal_by}
 use Rattle.floats.specs.declared.Function.{Function}
-use Rattle.rungs.specs.declared.Sequence.{Sequence}
+use Rattle.order.specs.declared.Sequence.{Sequence}
 use Rattle.rungs.specs.ColumnValues.{value, derivative_at}
 use Rattle.slots.specs.Slots.{filled}
 use Rattle.table_columns.specs.TableColumns.{values_in}

@@ -1,9 +1,7 @@
 -- The constants as fractions: their digits over a power of two.
-use mathlib.Core.Path.{refl}
-use mathlib.Core.Bool.{false}
-use Prim.Native.Nat.{◌^◌}
-use lib.Ieee.{of_bits}
-use lib.Ieee.Exact.{HasValue}
+use Rattle.std.proofs.Common.{refl, false, ◌^◌}
+use Rattle.std.specs.Float.Ieee.{of_bits}
+use Rattle.std.specs.Float.Ieee.Exact.{HasValue}
 use Rattle.floats.specs.Operations.{f1, pi}
 use Rattle.trigonometric.specs.Constants.{two_over_pi, half_pi_high, half_pi_low}
 

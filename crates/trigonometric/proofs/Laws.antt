@@ -1,9 +1,6 @@
 -- What the crates above may know of sin and cos beside their contracts and the theorem of QuarterTurns.antt.
-use mathlib.Core.Path.{◌≡◌, ap}
-use mathlib.Core.List.{List}
-use Prim.Native.Nat.{ℕ}
-use lib.ListN.{get_or}
-use lib.Ieee.{Float, nan}
+use Rattle.std.proofs.Common.{◌≡◌, ap, List, ℕ, get_or}
+use Rattle.std.specs.Float.{Float, nan}
 use Rattle.floats.specs.Operations.{f0, f1}
 use Rattle.trigonometric.specs.Trigonometric.{sin, cos}
 use Rattle.trigonometric.specs.Trigonometric.Examples.{computed, values, examples_hold}

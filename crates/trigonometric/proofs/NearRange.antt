@@ -1,12 +1,8 @@
 -- The range of near in sin and cos: the quarter turns are at most 2 ^ 30 + 1 in size, so that the cast to i32 never saturates.
-use mathlib.Core.Path.{◌≡◌, sym, subst}
-use mathlib.Core.Bool.{true, false}
-use Prim.Native.Nat.{◌+◌, ◌*◌, ◌^◌, ◌≤◌}
-use native.Mathlib.Omega.{arith}
-use borrow.Author.Tests.{ltb-true}
-use lib.Dec.{T, lit≤, lit<}
-use lib.Signed.{mag}
-use lib.Ieee.{Float, nan, inf, fin, up, down, neg, lt, of_bits}
+use Rattle.std.proofs.Common.{◌≡◌, sym, subst, true, false, ◌+◌, ◌*◌, ◌^◌, ◌≤◌, arith, ltb-true, T, lit≤, lit<}
+use Rattle.std.specs.Float.{Float, nan, inf, fin}
+use Rattle.std.specs.Float.Ieee.{up, down, neg, lt, of_bits}
+use Rattle.std.specs.Int.Signed.{mag}
 use Rattle.floats.specs.Operations.{◌⊗◌}
 use Rattle.floats.proofs.Bounds.{mul_between}
 use Rattle.near.proofs.NearRange.{AtMost, at_most, near_at_most}

@@ -1,23 +1,18 @@
 -- The sine at whole quarter turns. With h = 2 n + 1, y is h quarter turns to within 2 ^ -41, so that near finds h, and what is left of y is at most 2 ^ -40,
 -- whose cosine is exactly 1. The long numerals are the digits of the constants (ConstantValues.antt).
-use mathlib.Core.Path.{◌≡◌, refl, sym, ◌∙◌, ap, subst}
-use mathlib.Core.Bool.{Bool, true, false, cond}
-use Prim.Native.Nat.{ℕ, zero, suc, ◌+◌, ◌-◌, ◌*◌, ◌/◌, ◌%◌, ◌^◌, ◌≤◌, ◌<◌}
-use native.Mathlib.Nat.{mul-pos, mul-le-mul, mul-le-mul_right, mul-lt-mul_of_pos_right, lt_of_mul-lt-mul_right}
-use native.Mathlib.Omega.{arith}
-use borrow.Author.Tests.{lt-ltb}
-use lib.Dec.{eqb, lit≤, lit<}
-use lib.IntN.{pos, negsuc, neg_ℤ}
-use lib.Ieee.{Float, binary64, unlike, below, neg, lt, le, round, of_bits, to_signed}
-use lib.Ieee.Exact.{HasValue}
+use Rattle.std.proofs.Common.{◌≡◌, refl, sym, ◌∙◌, ap, subst, Bool, true, false, cond, ℕ, zero, suc, ◌+◌, ◌-◌, ◌*◌, ◌/◌}
+use Rattle.std.proofs.Common.{◌%◌, ◌^◌, ◌≤◌, ◌<◌, mul-pos, mul-le-mul, mul-le-mul_right, mul-lt-mul_of_pos_right}
+use Rattle.std.proofs.Common.{lt_of_mul-lt-mul_right, arith, lt-ltb, eqb, lit≤, lit<, pos, negsuc, neg_ℤ}
+use Rattle.std.specs.Float.{Float, binary64}
+use Rattle.std.specs.Float.Ieee.{unlike, below, neg, lt, le, round, of_bits, to_signed}
+use Rattle.std.specs.Float.Ieee.Exact.{HasValue}
 use Rattle.floats.specs.Operations.{◌⊕◌, ◌⊖◌, ◌⊗◌, ◌⊘◌, float, whole, f0, f½, f1, pi}
 use Rattle.floats.specs.Facts.{Between, signed_int}
 use Rattle.floats.proofs.Values.{rescale, neg_value, of_int_value, of_int_pos}
 use Rattle.floats.proofs.Arithmetic.{sub_is, mul_at, div_at}
 use Rattle.floats.proofs.Comparison.{lt_at}
 use Rattle.floats.proofs.Wholes.{unlike_plus}
-use Rattle.floats.proofs.Bounds.{round_between, value_between, between_value, neg_between, mul_between, plus_between, apart_between, close_between}
-use Rattle.floats.proofs.Bounds.{above_zero, below_zero, cut_between, one_less}
+use Rattle.floats.proofs.Bounds.{round_between, value_between, between_value, neg_between, mul_between, plus_between, apart_between, close_between, above_zero, below_zero, cut_between, one_less}
 use Rattle.near.specs.Near.{near}
 use Rattle.near.proofs.NearRange.{near_is, half_value}
 use Rattle.floats.proofs.Countdown.{stays}

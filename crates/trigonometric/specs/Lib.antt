@@ -1,3 +1,4 @@
 pub mod Constants
 pub mod Trigonometric
+pub mod Angle
 pub mod QuarterTurns

@@ -1,11 +1,18 @@
 -- A float as an i32: within the range it is what it is as an i64, and beyond an end of the range it is that end.
-use Rattle.std.proofs.Common.{◌≡◌, ℕ, ◌+◌, ◌*◌, ◌/◌, ◌^◌, ◌<◌, ◌≤◌, min, true, false, T, ltb, ℤ, pos, negsuc, neg_ℤ, sym, refl, ap, ◌∙◌, subst, true≢false, mul-le-mul_right, div-lt_iff_lt-mul, le-div_iff_mul-le, div-one, arith, lt→ltb, ltb-false, ltb-true}
-use native.Mathlib.Nat.{min-eq_left}
-use lib.Signed.{lt_z, non_neg}
-use lib.Ieee.{Float, nan, inf, fin, up, down, lt, le, eq, ne, to_signed}
-use lib.Ieee.Exact.{HasValue}
-use lib.Ieee.Fits.{down_pos}
-use lib.Ieee.Compare.{differs_from_itself}
+use Rattle.std.proofs.Common.{◌≡◌, lit≤, w32, SFits, to_z-of_z, Bool, le-ltb, lt-ltb, lt→ltb, mul-le-mul_right, ℕ, ◌+◌}
+use Rattle.std.proofs.Common.{◌*◌, ◌/◌, ◌^◌, ◌<◌, ◌≤◌, min, true, false, T, ltb, ℤ, pos, negsuc, neg_ℤ, sym, refl, ap}
+use Rattle.std.proofs.Common.{◌∙◌, subst, true≢false, div-lt_iff_lt-mul, le-div_iff_mul-le, div-one, arith, ltb-false}
+use Rattle.std.proofs.Common.{ltb-true}
+use Rattle.std.specs.Float.{Float, nan, inf, fin}
+use Rattle.std.specs.Float.Ieee.{up, down, neg, lt, le, eq, ne, is_nan, of_bits, to_signed}
+use Rattle.std.specs.Float.Ieee.Exact.{HasValue}
+use Rattle.std.proofs.Math.Nat.{min-eq_left}
+use Rattle.std.specs.Int.Signed.{lt_z, non_neg}
+use Rattle.std.specs.Float.Ieee.Compare.{differs_from_itself}
+use Rattle.std.specs.Float.Ieee.Fits.{down_pos}
+use Rattle.std.specs.Float.Ieee.Casts.{to_signed_in}
+use borrow.Author.Rules.{sfits_of}
+use Rattle.floats.specs.Operations.{bits, f0}
 use Rattle.floats.proofs.Booleans.{or_l}
 use Rattle.floats.proofs.Tests.{one}
 use Rattle.floats.proofs.Values.{to_signed_at}
@@ -21,7 +28,7 @@ unfolding le
 lt→le x y t = or_l (lt x y) (eq x y) t
 
 -- A float between two whole numbers that lie in an i64's range: what `truncating_f64_to_i64` asks
-pub in_i64 : (a i b j : ℕ) → a * 2 ^ i ≤ 2 ^ 63 → b * 2 ^ j ≤ 2 ^ 63 → (x : Float) → lt x (fin false a (pos i)) ≡ true
+in_i64 : (a i b j : ℕ) → a * 2 ^ i ≤ 2 ^ 63 → b * 2 ^ j ≤ 2 ^ 63 → (x : Float) → lt x (fin false a (pos i)) ≡ true
     → lt (fin true b (pos j)) x ≡ true
     → T (le (fin true 1 (pos 63)) x) × T (lt x (fin false 1 (pos 63)))
 unfolding lt
@@ -79,6 +86,80 @@ below_i32 (fin true m e) p q =
 pub nan_to_zero : (x : Float) → ne x x ≡ true → to_signed 31 x ≡ pos 0
 unfolding to_signed
 nan_to_zero x p = rw (differs_from_itself x (subst T (sym p) tt))
+
+-- ---- by the tests of `to_i32`
+
+-- 2 ^ 31, and one more
+abbrev pub top : Float
+top = bits 0x41e0_0000_0000_0000
+
+abbrev pub bottom : Float
+bottom = bits 0x41e0_0000_0020_0000
+
+module _ (x : Float) (low : lt (neg bottom) x ≡ true) (high : lt x top ≡ true) where
+  pub above_i64 : T (le (fin true 1 (pos 63)) x)
+  unfolding of_bits neg
+  above_i64 = (in_i64 1 31 2147483649 0 (lit≤ tt) (lit≤ tt) x high low).0
+
+  pub below_i64 : T (lt x (fin false 1 (pos 63)))
+  unfolding of_bits neg
+  below_i64 = (in_i64 1 31 2147483649 0 (lit≤ tt) (lit≤ tt) x high low).1
+
+  pub as_i64 : to_signed 63 x ≡ to_signed 31 x
+  unfolding of_bits neg
+  as_i64 = in_i32 x high low
+
+pub fits_i32 : (x : Float) → SFits w32 (to_signed 31 x)
+fits_i32 x = sfits_of (to_signed_in 31 x)
+
+pub not_below_zero : (x : Float) → lt x top ≡ false → lt x f0 ≡ false
+unfolding lt of_bits
+not_below_zero nan p = refl
+not_below_zero (inf true) p = cc
+not_below_zero (inf false) p = refl
+not_below_zero (fin true m e) p = let d = down_pos e in let k = ltb-false 0 (m * up e * 1 + 2147483648 * down e) p in absurd (omega arith)
+not_below_zero (fin false m e) p = le-ltb (m * up e * 1) (0 * down e) (omega arith)
+
+pub under_zero : (x : Float) → lt (neg bottom) x ≡ false → is_nan x ≡ false → lt x f0 ≡ true
+unfolding lt of_bits neg is_nan
+under_zero nan p q = cc
+under_zero (inf true) p q = refl
+under_zero (inf false) p q = cc
+under_zero (fin true m e) p q =
+    let d = down_pos e in
+    let k = over (m * up e) (down e) 2147483649 (down_pos e) p in
+    lt-ltb 0 (m * up e * 1 + 0 * down e) (omega arith)
+under_zero (fin false m e) p q = let d = down_pos e in let k = ltb-false 0 (2147483649 * down e + m * up e * 1) p in absurd (omega arith)
+
+pub past_below : (x : Float) → lt (neg bottom) x ≡ false → lt x f0 ≡ true → to_signed 31 x ≡ negsuc 2147483647
+unfolding of_bits neg
+past_below x p q = below_i32 x (go (lt x (fin false 1 (pos 31))) refl) p
+  where
+    go : (t : Bool) → lt x (fin false 1 (pos 31)) ≡ t → t ≡ true
+    go true e = refl
+    go false e = cc (not_below_zero x e)
+
+-- only NaN differs from itself
+same_unless_nan : (x : Float) → is_nan x ≡ false → ne x x ≡ false
+unfolding is_nan
+same_unless_nan x p = go (ne x x) refl
+  where
+    go : (t : Bool) → ne x x ≡ t → t ≡ false
+    go true e = absurd (true≢false (sym (ap is_nan (differs_from_itself x (subst T (sym e) tt))) ∙ p))
+    go false e = refl
+
+pub past_above : (x : Float) → lt x top ≡ false → is_nan x ≡ false → to_signed 31 x ≡ pos 2147483647
+unfolding of_bits
+past_above x p q = above_i32 x p (same_unless_nan x q)
+
+pub zero_at_nan : (x : Float) → is_nan x ≡ true → to_signed 31 x ≡ pos 0
+unfolding is_nan to_signed
+zero_at_nan nan p = refl
+zero_at_nan (inf s) p = cc
+zero_at_nan (fin s m e) p = cc
+
+-- what `to_i32` takes
+pub ruleset cast_laws = (above_i64, below_i64, as_i64, fits_i32, not_below_zero, under_zero, past_below, past_above, zero_at_nan, to_z-of_z)
 
 -- a whole number from −2^31 to −0.0 is cast to itself
 pub whole_to_i32 : (x : Float) (n : ℕ) → n ≤ 2 ^ 31 → HasValue x true n 1 → to_signed 31 x ≡ neg_ℤ (pos n)

@@ -1,6 +1,7 @@
 -- What 01 says of the cut, as theorems about its definitions.
 use Rattle.std.proofs.Common.{◌≡◌, true, false, pos, negsuc, refl}
-use lib.Ieee.{nan, inf, neg, sub, of_bits, round, to_signed}
+use Rattle.std.specs.Float.{nan, inf}
+use Rattle.std.specs.Float.Ieee.{neg, sub, of_bits, round, to_signed}
 use Rattle.floats.specs.Operations.{f0, f½, f1, bits}
 use Rattle.truncation.specs.Truncation.{truncated, fraction}
 

@@ -1,10 +1,16 @@
 -- From 2 ^ (prec - 1) on every value of a format is whole, so adding 2 ^ 52 to a smaller size and taking it off again leaves a whole number next to the size.
-use Rattle.std.proofs.Common.{◌≡◌, ℕ, suc, ◌+◌, ◌-◌, ◌*◌, ◌/◌, ◌^◌, ◌<◌, ◌≤◌, Bool, true, false, cond, T, ltb, ℤ, pos, sym, refl, ap, ◌∙◌, subst, inl, inr, le_trans, le_of_eq, lt_of_lt_of_le, le_of_lt, mul-le-mul_right, mul_assoc, suc-mul, div-lt_iff_lt-mul, mul-le-mul_left, mul-lt-mul_of_pos_right, pow-suc, le-div_iff_mul-le, zero-mul, mul-one, sub-add_cancel, mul_right_comm, not-le_of_lt, div-mul-le_self, le_of_mul-le-mul_right, mul-div_cancel, arith, pow_pos, pow_mono, pow-add, ltb-false, ltb-true, lt-ltb}
-use native.Mathlib.Nat.{eq_of_mul-eq-mul_right, pow-succ', lt-div-mul-add, add-mul-div_right}
-use lib.Ieee.{Float, nan, inf, fin, Format, binary64, prec, low, up, down, round, add, neg, lt, below, fits, of_int, of_bits}
-use lib.Ieee.Exact.{HasValue}
-use lib.Ieee.Fits.{round-fits, of_int-fits, down_pos}
-use lib.Ieee.Scale.{grid}
+use Rattle.std.proofs.Common.{◌≡◌, ℕ, suc, ◌+◌, ◌-◌, ◌*◌, ◌/◌, ◌^◌, ◌<◌, ◌≤◌, Bool, true, false, T, ltb, ℤ, pos, sym}
+use Rattle.std.proofs.Common.{refl, ap, ◌∙◌, subst, inl, inr, le_trans, le_of_eq, lt_of_lt_of_le, le_of_lt}
+use Rattle.std.proofs.Common.{mul-le-mul_right, mul_assoc, suc-mul, div-lt_iff_lt-mul, mul-le-mul_left}
+use Rattle.std.proofs.Common.{mul-lt-mul_of_pos_right, pow-suc, le-div_iff_mul-le, zero-mul, mul-one, sub-add_cancel}
+use Rattle.std.proofs.Common.{mul_right_comm, not-le_of_lt, div-mul-le_self, le_of_mul-le-mul_right, mul-div_cancel}
+use Rattle.std.proofs.Common.{arith, pow_pos, pow_mono, pow-add, ltb-false, ltb-true, lt-ltb}
+use Rattle.std.specs.Float.{Float, nan, inf, fin, Format, binary64}
+use Rattle.std.specs.Float.Ieee.{prec, low, up, down, round, add, neg, lt, below, fits, of_int, of_bits}
+use Rattle.std.specs.Float.Ieee.Exact.{HasValue}
+use Rattle.std.proofs.Math.Nat.{eq_of_mul-eq-mul_right, pow-succ', lt-div-mul-add, add-mul-div_right}
+use Rattle.std.specs.Float.Ieee.Fits.{round-fits, of_int-fits, down_pos}
+use Rattle.std.specs.Float.Ieee.Scale.{grid}
 use Rattle.truncation.specs.Truncation.{truncated}
 use Rattle.floats.specs.Operations.{◌⊕◌, ◌⊖◌, f0, f1, whole_from}
 use Rattle.floats.proofs.Tests.{one, lt_or_ge}
@@ -152,16 +158,24 @@ module _ (m : ℕ) (e : ℤ) (small : lt (fin false m e) limit ≡ true) where
 
 -- ---- what the tests of the program say
 
--- the result of `whole_part`, by what its test gives
-pub whole_part_is : (y : Float) → lt f0 y ≡ true → lt y whole_from ≡ true → (b : Bool) → lt y (y ⊕ whole_from ⊖ whole_from) ≡ b
-    → cond b (y ⊕ whole_from ⊖ whole_from ⊖ f1) (y ⊕ whole_from ⊖ whole_from) ≡ truncated y
+-- the two results of `whole_part`
+pub one_above : (y : Float) → lt f0 y ≡ true → lt y whole_from ≡ true → lt y (y ⊕ whole_from ⊖ whole_from) ≡ true
+    → y ⊕ whole_from ⊖ whole_from ⊖ f1 ≡ truncated y
 unfolding of_bits lt
-whole_part_is nan p q b h = absurd (subst T (sym p) tt)
-whole_part_is (inf true) p q b h = absurd (subst T (sym p) tt)
-whole_part_is (inf false) p q b h = absurd (subst T (sym q) tt)
-whole_part_is (fin true m e) p q b h = absurd (subst T (sym p) tt)
-whole_part_is (fin false m e) p q true h = one_less m e q h
-whole_part_is (fin false m e) p q false h = as_it_is m e q h
+one_above nan p q h = cc
+one_above (inf true) p q h = cc
+one_above (inf false) p q h = cc
+one_above (fin true m e) p q h = cc
+one_above (fin false m e) p q h = one_less m e q h
+
+pub whole_already : (y : Float) → lt f0 y ≡ true → lt y whole_from ≡ true → lt y (y ⊕ whole_from ⊖ whole_from) ≡ false
+    → y ⊕ whole_from ⊖ whole_from ≡ truncated y
+unfolding of_bits lt
+whole_already nan p q h = cc
+whole_already (inf true) p q h = cc
+whole_already (inf false) p q h = cc
+whole_already (fin true m e) p q h = cc
+whole_already (fin false m e) p q h = as_it_is m e q h
 
 zero_digits : (a c : ℕ) → a ≤ 0 → a ≡ 0 * c
 zero_digits a c h = let z : a ≡ 0 = omega arith in z ∙ sym (zero-mul c)
@@ -193,19 +207,19 @@ above_zero m e = lt_at (fin false 0 (pos 0)) (fin false m e) false 0 false (m * 
 below_zero : (s : Bool) (m : ℕ) (e : ℤ) → lt (fin s m e) (fin false 0 (pos 0)) ≡ below s (m * up e) false 0
 below_zero s m e = lt_at (fin s m e) (fin false 0 (pos 0)) s (m * up e) false 0 (down e) (down_pos e) (own_value s m e) (zero_value (down e))
 
-pub large_above : (x : Float) → T (fits binary64 x) → lt f0 x ≡ true → lt x whole_from ≡ false → x ≡ truncated x
+pub large_above : (x : Float) → T (fits binary64 x) → lt x whole_from ≡ false → x ≡ truncated x
 unfolding of_bits truncated lt
-large_above nan p q h = refl
-large_above (inf s) p q h = refl
-large_above (fin true m e) p q h = absurd (subst T (sym q) tt)
-large_above (fin false m e) p q h = large_itself false m e p (ltb-false (m * up e) (2 ^ 52 * down e) (sym (limit_above m e) ∙ h))
+large_above nan p h = refl
+large_above (inf s) p h = refl
+large_above (fin true m e) p h = let d = down_pos e in let k = ltb-false 0 (m * up e * 1 + 2 ^ 52 * down e) h in absurd (omega arith)
+large_above (fin false m e) p h = large_itself false m e p (ltb-false (m * up e) (2 ^ 52 * down e) (sym (limit_above m e) ∙ h))
 
-pub large_below : (x : Float) → T (fits binary64 x) → lt x f0 ≡ true → lt (neg whole_from) x ≡ false → x ≡ truncated x
-unfolding of_bits truncated neg
-large_below nan p q h = refl
-large_below (inf s) p q h = refl
-large_below (fin false m e) p q h = let k = ltb-true (m * up e) 0 (sym (below_zero false m e) ∙ q) in absurd (omega arith)
-large_below (fin true m e) p q h = large_itself true m e p (ltb-false (m * up e) (2 ^ 52 * down e) (sym (limit_below m e) ∙ h))
+pub large_below : (x : Float) → T (fits binary64 x) → lt (neg whole_from) x ≡ false → x ≡ truncated x
+unfolding of_bits truncated neg lt
+large_below nan p h = refl
+large_below (inf s) p h = refl
+large_below (fin false m e) p h = let d = down_pos e in let k = ltb-false 0 (2 ^ 52 * down e + m * up e * 1) h in absurd (omega arith)
+large_below (fin true m e) p h = large_itself true m e p (ltb-false (m * up e) (2 ^ 52 * down e) (sym (limit_below m e) ∙ h))
 
 -- neither above 0 nor below it: a zero or NaN
 pub zero_itself : (x : Float) → T (fits binary64 x) → lt f0 x ≡ false → lt x f0 ≡ false → x ≡ truncated x
@@ -240,3 +254,6 @@ negated_back (inf true) = refl
 negated_back (inf false) = refl
 negated_back (fin true m e) = round_neg binary64 false (m * up e / down e) 1
 negated_back (fin false m e) = round_neg binary64 true (m * up e / down e) 1
+
+-- what `whole_part` and `trunc` take
+pub ruleset trunc_laws = (one_above, whole_already, large_above, large_below, zero_itself, negated_above, negated_below, negated_back)

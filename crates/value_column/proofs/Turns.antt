@@ -1,14 +1,9 @@
 -- A turn of each loop, over plain variables: what it stores or carries on.
-use mathlib.Core.Path.{◌≡◌, ap, ◌∙◌}
-use mathlib.Core.List.{List}
-use mathlib.Core.Logic.{inr}
-use Prim.Native.Nat.{ℕ, ◌+◌, ◌-◌, ◌≤◌, ◌<◌}
-use native.Mathlib.Nat.{zero-add}
-use native.Mathlib.Omega.{arith}
-use lib.ListN.{length, get_or, set}
-use lib.Ieee.{Float, nan}
+use Rattle.std.proofs.Common.{◌≡◌, ap, ◌∙◌, List, inr, ℕ, ◌+◌, ◌-◌, ◌≤◌, ◌<◌, min, zero-add, arith, length, get_or, set}
+use Rattle.std.specs.Float.{nan}
+use Rattle.std.specs.Float.Ieee.{Float}
 use Rattle.floats.specs.Operations.{◌⊗◌}
-use Rattle.rungs.specs.declared.Sequence.{Sequence}
+use Rattle.order.specs.declared.Sequence.{Sequence}
 use Rattle.recurrence.specs.Recurrence.{step, step_down}
 use Rattle.rungs.specs.Rungs.{rung, descent}
 use Rattle.rungs.proofs.Laws.{rung_step, descent_step}
@@ -25,15 +20,9 @@ module _ (r : Sequence) where
   climbed k a b w h ea eb er = er ∙ rw (ea, eb) (rung_step r k h)
 
   -- stored
-  pub climbed_slot : (k : ℕ) (w : Float) (t l : List Float) → 3 ≤ k → t ≡ filled (rung r) 3 3 (k - 3) l → w ≡ rung r k
-      → set t k w ≡ filled (rung r) 3 3 (k + 1 - 3) l
-  climbed_slot k w t l h et er =
-      let e : k ≡ 3 + (k - 3) = omega arith in
-      let g : k - 3 + 1 ≡ k + 1 - 3 = omega arith in
-      rw (et, er)
-      (ap (λ (i : ℕ). set (filled (rung r) 3 3 (k - 3) l) i (rung r i)) e
-      ∙ filled_more (rung r) 3 3 (k - 3) l
-      ∙ ap (λ (i : ℕ). filled (rung r) 3 3 i l) g)
+  pub climbed_slot : (k : ℕ) (w : Float) (t l : List Float) → t ≡ filled (rung r) 0 0 k l → w ≡ rung r k
+      → set t k w ≡ filled (rung r) 0 0 (k + 1) l
+  climbed_slot k w t l et er = rw (et, er) (rw zero-add at (filled_more (rung r) 0 0 k l))
 
 -- ---- downward
 
@@ -49,17 +38,29 @@ module _ (r : Sequence) (top : ℕ) (low high : Float) where
       ∙ ap (λ (i : ℕ). step_down r.function r.x r.f (k - 1) (descent r top low high (k - 1 + 1)) (descent r top low high i)) g
       ∙ descent_step r top low high (k - 1) (omega arith))
 
-  pub lowered_slot : (k : ℕ) (w : Float) (t l : List Float) → 0 < k → k ≤ top → top ≤ length l
-      → t ≡ filled (descent r top low high) k k (top - k) l → w ≡ descent r top low high (k - 1)
-      → set t (k - 1) w ≡ filled (descent r top low high) (k - 1) (k - 1) (top - (k - 1)) l
-  lowered_slot k w t l p h room et er =
-      let value = descent r top low high in
-      let e : k ≡ k - 1 + 1 = omega arith in
-      let g : top - k + 1 ≡ top - (k - 1) = omega arith in
-      rw (et, er)
-      (ap (λ (i : ℕ). set (filled value i i (top - k) l) (k - 1) (value (k - 1))) e
-      ∙ filled_before nan value (k - 1) (top - k) l (omega arith)
-      ∙ ap (λ (i : ℕ). filled value (k - 1) (k - 1) i l) g)
+  -- stored where there is a slot for it, and else not
+  module _ (k : ℕ) (t l : List Float) (some : 0 < k) (below : k ≤ top) (et : t ≡ filled (descent r top low high) k k (min top (length l) - k) l) where
+    value : ℕ → Float
+    value = descent r top low high
+
+    pub lowered_slot : (w : Float) → k - 1 < length l → w ≡ descent r top low high (k - 1)
+        → set t (k - 1) w ≡ filled (descent r top low high) (k - 1) (k - 1) (min top (length l) - (k - 1)) l
+    unfolding value
+    lowered_slot w room er =
+        let m = min top (length l) in
+        let e : k ≡ k - 1 + 1 = omega arith in
+        let g : m - k + 1 ≡ m - (k - 1) = omega arith in
+        rw (et, er)
+        (ap (λ (i : ℕ). set (filled value i i (m - k) l) (k - 1) (value (k - 1))) e
+        ∙ filled_before nan value (k - 1) (m - k) l (omega arith)
+        ∙ ap (λ (i : ℕ). filled value (k - 1) (k - 1) i l) g)
+
+    pub no_slot : length l ≤ k - 1 → t ≡ filled (descent r top low high) (k - 1) (k - 1) (min top (length l) - (k - 1)) l
+    unfolding filled
+    no_slot full =
+        let a : min top (length l) - k ≡ 0 = omega arith in
+        let b : min top (length l) - (k - 1) ≡ 0 = omega arith in
+        et ∙ rw (a, b)
 
 -- ---- a slot that is read before it is written
 

@@ -2,7 +2,7 @@
 use Rattle.std.specs.Prelude.{List, ℕ, ◌+◌, Float}
 use Rattle.floats.specs.Operations.{◌⊗◌}
 use Rattle.slots.specs.Slots.{slot}
-use Rattle.rungs.specs.declared.Sequence.{Sequence}
+use Rattle.order.specs.declared.Sequence.{Sequence}
 use Rattle.derivatives.specs.Derivatives.{derivative}
 
 -- the values of a list, each times s

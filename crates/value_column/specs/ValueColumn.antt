@@ -1,6 +1,6 @@
 -- The value column of a table (01, "Splitting the order" and "Upward, downward, scaled").
 use Rattle.std.specs.Prelude.{List, ℕ, ◌+◌, Bool, ◌&&◌, cond, ltb, leb, length, Float}
-use Rattle.rungs.specs.declared.Sequence.{Sequence}
+use Rattle.order.specs.declared.Sequence.{Sequence}
 use Rattle.rungs.specs.ColumnValues.{value}
 use Rattle.slots.specs.Slots.{filled}
 pub mod Open

@@ -1,9 +1,10 @@
--- `branches::order_is_low` meets its contract: the test is the definition's.
-use Rattle.branches.proofs.Cases.{low_order, no_low_order}
+-- `branches::order_is_low` meets its contract: the tests are the definition's.
+use Rattle.std.proofs.Common.{arith}
+use Rattle.branches.specs.Branches.Open.{order_is_low_is}
 use Rattle.branches.proofs.order_is_low.Goals as goal
 
 pub returns-then-abs : goal.returns-then-abs
-returns-then-abs c = low_order _ _ (rw c.abs.ensures at c.if-abs.true)
+returns-then-abs c = grind (arith, order_is_low_is)
 
-pub returns : goal.returns
-returns c = no_low_order _ _ (rw c.abs.ensures at c.if-abs.false)
+pub returns-else-abs : goal.returns-else-abs
+returns-else-abs c = grind (arith, order_is_low_is)

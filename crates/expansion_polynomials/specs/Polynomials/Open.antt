@@ -29,6 +29,9 @@ module _ (p : List Float) (s : ℕ) (t : Float) where
   unfolding uv_poly
   even_row bar h = rw (ne_eqb (s % 2) 1 h)
 
+-- those above together
+pub ruleset cases = (barred_plus, barred_minus, plain, odd_row, even_row)
+
 pub u_sum_law : (t w : Float) → u_sum t w ≡ summed u_row t w 11 f0
 unfolding u_sum
 u_sum_law t w = refl

@@ -10,8 +10,8 @@ returns-then-x c =
       c.last_factor.ensures,
     )
 
-pub returns-then-x-trunc : goal.returns-then-x-trunc
-returns-then-x-trunc c = rw (gamma2_pole _ (rw c.trunc.ensures at c.if-x-trunc.true) c.if-x.false)
+pub returns-else-x : goal.returns-else-x
+returns-else-x c = rw (gamma2_pole _ (rw c.trunc.ensures at c.if-x-trunc.true) c.if-x.false)
 
 pub returns-then-x-2 : goal.returns-then-x-2
 returns-then-x-2 c =
@@ -22,16 +22,16 @@ returns-then-x-2 c =
       c.abs-z.ensures,
     )
 
-pub returns-then-z : goal.returns-then-z
-returns-then-z c =
+pub returns-else-x-2 : goal.returns-else-x-2
+returns-else-x-2 c =
     rw (
       gamma2_above _ (rw c.trunc.ensures at c.if-x-trunc.false) (rw c.abs-z.ensures at c.if-z.true) c.if-x-2.false,
       c.gamma_above-ga.ensures,
       c.abs-z.ensures,
     )
 
-pub returns : goal.returns
-returns c =
+pub returns-else-z : goal.returns-else-z
+returns-else-z c =
     rw (
       gamma2_near _ (rw c.trunc.ensures at c.if-x-trunc.false) (rw c.abs-z.ensures at c.if-z.false),
       c.gamma_near.ensures,

@@ -25,7 +25,8 @@ module _ (s : Ladder) where
   climbed_to_is n = refl
 
   pub pair_from_is : pair_from s
-      ≡ (s.low, derivative s.function s.below s.x s.f (s.n - 1) s.low s.high)
+      ≡ (let r = sequence_in s in let v = s.values in
+      (v.low, derivative r.function r.below r.x r.f (s.held.n - 1) v.low v.high))
   unfolding pair_from
   pair_from_is = refl
 

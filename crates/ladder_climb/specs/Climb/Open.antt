@@ -4,7 +4,7 @@ use Rattle.std.proofs.Math.Path.{refl}
 use Rattle.recurrence.specs.Recurrence.{step}
 use Rattle.recurrence.specs.ThreeTerm.{continued}
 use Rattle.derivatives.specs.Derivatives.{derivative}
-use Rattle.rungs.specs.declared.Sequence.{Sequence}
+use Rattle.order.specs.declared.Sequence.{Sequence}
 use Rattle.slots.specs.Slots.{filled}
 use Rattle.ladder_climb.specs.Climb.{carried_value, carried_derivative, room_above, top_values, climbed_values}
 use Rattle.ladder_climb.specs.Climb.{climbed_derivatives}

@@ -1,7 +1,5 @@
 -- `ladder_columns::fill_columns` meets its contract: where there is room the two columns are filled, and else both are left.
-use mathlib.Core.Path.{◌≡◌, sym, ◌∙◌}
-use mathlib.Core.Bool.{true}
-use lib.ListN.{length}
+use Rattle.std.proofs.Common.{◌≡◌, sym, ◌∙◌, true, length}
 use Rattle.ladder_columns.specs.Columns.{room_for}
 use Rattle.ladder_columns.proofs.Room.{columns_room}
 use Rattle.ladder_columns.proofs.Columns.{columns_filled, columns_left}

@@ -1,10 +1,13 @@
 -- `ladder_columns::has_room` meets its contract: its tests are the definition's.
-use mathlib.Core.Path.{sym, ◌∙◌}
-use Rattle.ladder_columns.proofs.Room.{no_values, by_derivatives}
+use Rattle.std.proofs.Common.{arith}
+use Rattle.std.proofs.lemmas.Bool.Decides.{nat_tests}
+use Rattle.ladder_columns.specs.Columns.{room_for}
 use Rattle.ladder_columns.proofs.has_room.Goals as goal
 
 pub returns-then-has_room : goal.returns-then-has_room
-returns-then-has_room c = by_derivatives _ _ _ (sym c.has_room.ensures ∙ c.if-has_room.true)
+unfolding room_for
+returns-then-has_room c = grind (arith, nat_tests)
 
-pub returns : goal.returns
-returns c = no_values _ _ _ (sym c.has_room.ensures ∙ c.if-has_room.false)
+pub returns-else-has_room : goal.returns-else-has_room
+unfolding room_for
+returns-else-has_room c = grind (arith, nat_tests)

@@ -1,7 +1,7 @@
 -- What each shut definition is, for the proofs of this crate. No other crate cites this module.
 use Rattle.std.specs.Prelude.{◌≡◌, List, cond, ℕ, ◌+◌, length, Float}
 use Rattle.std.proofs.Math.Path.{refl}
-use Rattle.rungs.specs.declared.Sequence.{Sequence}
+use Rattle.order.specs.declared.Sequence.{Sequence}
 use Rattle.rungs.specs.ColumnValues.{value, derivative_at}
 use Rattle.slots.specs.Slots.{filled}
 use Rattle.ladder_columns.specs.Columns.{room_for, value_column, derivative_column}

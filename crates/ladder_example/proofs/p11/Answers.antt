@@ -1,8 +1,7 @@
 -- `ladder_example::p11` meets its contract: each call's reply and tables are its contract's, and so the next call's.
-use mathlib.Core.Path.{refl}
-use lib.ListN.{replicate}
+use Rattle.std.proofs.Common.{refl, replicate}
 use Rattle.floats.specs.Operations.{f0}
-use Rattle.ladder_lists.proofs.OneLadder.{counts, at_four, stored}
+use Rattle.ladder_lists.proofs.OneLadder.{counts, pairs, stored}
 use Rattle.ladder_example.proofs.p11.Goals as goal
 
 pub returns : goal.returns
@@ -17,7 +16,7 @@ returns c =
     record {
       written = counts l d refl refl s.result a.result b.result e.result g.result a.new.values a.new.derivatives b.new.values b.new.derivatives e.new.values e.new.derivatives
           g.new.values g.new.derivatives s.ensures.state a.ensures b.ensures e.ensures g.ensures;
-      answered = at_four l d refl refl s.result a.result b.result e.result g.result a.new.values a.new.derivatives b.new.values b.new.derivatives e.new.values e.new.derivatives
+      answered = pairs l d refl refl s.result a.result b.result e.result g.result a.new.values a.new.derivatives b.new.values b.new.derivatives e.new.values e.new.derivatives
           g.new.values g.new.derivatives s.ensures.state a.ensures b.ensures e.ensures g.ensures;
       stored = stored l d refl refl s.result a.result b.result e.result g.result a.new.values a.new.derivatives b.new.values b.new.derivatives e.new.values e.new.derivatives
           g.new.values g.new.derivatives s.ensures.state a.ensures b.ensures e.ensures g.ensures;

@@ -1,51 +1,49 @@
 -- `ladder_machine::judge` meets its contract: the refusal's number, and else the case by the parts of the order.
-use mathlib.Core.Path.{◌≡◌, sym, ◌∙◌}
-use borrow.Author.Rules.{rules}
-use lib.Dec.{T}
-use lib.Ieee.{binary64, fits}
+use Rattle.std.proofs.Common.{arith, rules, T, ◌≡◌}
+use Rattle.std.specs.Float.{binary64}
+use Rattle.std.specs.Float.Ieee.{fits}
+use Rattle.std.proofs.lemmas.Bool.Decides.{nat_tests}
+use Rattle.std.proofs.lemmas.Result.{err_from_is_err_and}
 use Rattle.order.proofs.Facts.{split_facts}
 use Rattle.order.proofs.Laws.{fraction_number}
+use Rattle.answer.specs.Answer.{refusal_of}
+use Rattle.answer.proofs.Laws.{numbered}
 use Rattle.ladder_machine.specs.Machine.{asks, refusal}
+use Rattle.ladder_machine.specs.Machine.Open.{refusal_is, case_of_is, verdict_is, verdict_on_request}
 use Rattle.ladder_machine.specs.Held.{verdict_of}
 use Rattle.ladder_machine.proofs.Laws.{accepted}
-use Rattle.ladder_machine.proofs.Tests.{refusal_by_law, verdict_refused, verdict_accepted}
 use Rattle.ladder_machine.proofs.judge.Goals as goal
-use Rattle.ladder_machine.proofs.judge.Goals.{After-refusal_by-number, Else-number-ne0}
+use Rattle.ladder_machine.proofs.judge.Goals.{In_ok-check}
 
--- the number that the call gives is the refusal's
-number : (c : After-refusal_by-number)
-    → let g = c.args in
-    c.refusal_by-number.result ≡ refusal (asks g.function g.v g.x) g.values g.derivatives
-number c =
-    let g = c.args in
-    let q = asks g.function g.v g.x in
-    let n = c.split-o.result.n in
-    c.refusal_by-number.ensures ∙ refusal_by_law q g.values g.derivatives n c.too_short-short.result c.split-o.ensures.top c.too_short-short.ensures
+pub returns-in_err-check : goal.returns-in_err-check
+unfolding verdict_of refusal_of
+returns-in_err-check c =
+    let p = err_from_is_err_and c.from_residual.result c.from_residual.ensures.1 in
+    let e = c.in_err-check.ensures in
+    rw (p.1, p.2) (grind (arith, nat_tests, refusal_is, case_of_is, verdict_is, verdict_on_request, numbered, e))
 
-ok : (c : Else-number-ne0)
+-- the request is accepted
+ok : (c : In_ok-check)
     → let g = c.args in
     refusal (asks g.function g.v g.x) g.values g.derivatives ≡ 0
-ok c = sym (number c.before) ∙ c.if-number-ne0.false
+unfolding refusal_of
+ok c = let e = c.in_ok-check.ensures in grind (arith, refusal_is, e)
 
-order-fits : (c : Else-number-ne0) → T (fits binary64 c.args.v)
+order-fits : (c : In_ok-check) → T (fits binary64 c.args.v)
 order-fits c = search rules
 
-pub returns-then-number-ne0 : goal.returns-then-number-ne0
-unfolding verdict_of
-returns-then-number-ne0 c =
-    verdict_refused _ _ _ _ _ (number (goal.at.returns-then-number-ne0 c).After-refusal_by-number) c.if-number-ne0.true
-
 pub case_of-requires : goal.case_of-requires
-unfolding verdict_of
 case_of-requires c =
     let g = c.args in
-    let q = asks g.function g.v g.x in
-    let a = accepted q g.values g.derivatives (ok (goal.at.case_of-requires c).Else-number-ne0) in
-    let facts = split_facts g.v (record { number = a.0; small = a.2; fit = order-fits (goal.at.case_of-requires c).Else-number-ne0 }) in
-    record { argument = a.1; fraction = rw c.split-o.ensures.fraction (fraction_number facts) }
+    let there = (goal.at.case_of-requires c).In_ok-check in
+    let a = accepted (asks g.function g.v g.x) g.values g.derivatives (ok there) in
+    let facts = split_facts g.v (record { number = a.0; small = a.2; fit = order-fits there }) in
+    record {
+      argument = rw c.sequence.ensures a.1;
+      fraction = rw (c.sequence.ensures, c.split-split.ensures.fraction) (fraction_number facts);
+    }
 
--- an accepted request's case, by the order's parts
 pub returns : goal.returns
-unfolding verdict_of
 returns c =
-    verdict_accepted _ _ _ _ _ _ _ _ (ok (goal.at.returns c).Else-number-ne0) c.split-o.ensures.side c.split-o.ensures.fraction c.split-o.ensures.top c.case_of.ensures
+    let e = ok (goal.at.returns c).In_ok-check in
+    grind (arith, nat_tests, case_of_is, verdict_is, verdict_on_request)

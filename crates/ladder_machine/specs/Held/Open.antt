@@ -8,11 +8,12 @@ use Rattle.ladder_machine.specs.Machine.{empty, holds, bits_of}
 use Rattle.ladder_machine.specs.Held.{counts_empty, machine_of}
 
 pub counts_empty_is : (h : Held)
-    → counts_empty h ≡ (eqb h.n 0 || ltb 1000 h.n || is_nan h.x || is_nan h.f || le f1 (absolute h.f))
+    → counts_empty h ≡ (eqb h.n 0 || ltb 1000 h.n || is_nan h.sequence.x || is_nan h.sequence.f || le f1 (absolute h.sequence.f))
 unfolding counts_empty
 counts_empty_is h = refl
 
 pub machine_of_is : (h : Held)
-    → machine_of h ≡ cond (counts_empty h) empty (holds h.function h.below (bits_of h.x) (bits_of h.f) h.n)
+    → machine_of h
+    ≡ (let r = h.sequence in cond (counts_empty h) empty (holds r.function r.below (bits_of r.x) (bits_of r.f) h.n))
 unfolding machine_of
 machine_of_is h = refl

@@ -1,18 +1,25 @@
--- `maclaurin::maclaurin` meets its contract: the refusal's number decides, and an accepted request answers the pair.
-use mathlib.Core.Path.{sym, ◌∙◌}
+-- `maclaurin::maclaurin` meets its contract: a refusal is passed up, and an accepted request answers the pair.
+use Rattle.std.proofs.Common.{◌≡◌, sym, ◌∙◌}
+use Rattle.std.proofs.lemmas.Result.{err_from_is_err_and}
 use Rattle.answer.specs.Answer.{refusal_of, pair_of}
-use Rattle.answer.proofs.Laws.{refused, answered}
-use Rattle.maclaurin.specs.Maclaurin.Open.{answer_is}
+use Rattle.answer.proofs.Laws.{refused, answered, passed, passed_up}
+use Rattle.maclaurin.specs.Maclaurin.{refusal}
+use Rattle.maclaurin.specs.Maclaurin.Open.{refusal_is, answer_is}
 use Rattle.maclaurin.proofs.maclaurin.Goals as goal
+use Rattle.maclaurin.proofs.maclaurin.Goals.{After-check}
 
-pub returns-then-number-ne0 : goal.returns-then-number-ne0
-unfolding refusal_of pair_of
-returns-then-number-ne0 c =
-    let r = c.refusal-number.ensures in
-    record { number = r; pair = rw (answer_is, ← r, refused _ _ c.if-number-ne0.true) }
+-- what the test says of the request's own refusal
+tested : (c : After-check) → let g = c.args in refusal_of c.check.result ≡ refusal g.a g.x g.c0 g.c1 g.e
+tested c = c.check.ensures ∙ sym (refusal_is _ _ _ _ _)
+
+pub returns-in_err-check : goal.returns-in_err-check
+returns-in_err-check c =
+    let e = tested (goal.at.returns-in_err-check c).After-check in
+    let r = passed_up _ _ e _ _ c.in_err-check.was (err_from_is_err_and c.from_residual.result c.from_residual.ensures.1) in
+    record { number = r.0; pair = r.1 ∙ sym (rw (answer_is, refused _ _ r.2)) }
 
 pub returns : goal.returns
 unfolding refusal_of pair_of
 returns c =
-    let r = sym c.refusal-number.ensures ∙ c.if-number-ne0.false in
-    record { number = sym r; pair = rw (answer_is, answered _ _ r, c.pb_maclaurin-w.ensures.first, c.pb_maclaurin-w.ensures.second) }
+    let r = passed _ _ (tested (goal.at.returns c).After-check) _ c.in_ok-check.was in
+    record { number = sym r; pair = rw (answer_is, answered _ _ r, c.pb_maclaurin.ensures.value, c.pb_maclaurin.ensures.derivative) }

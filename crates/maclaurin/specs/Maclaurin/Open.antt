@@ -1,5 +1,5 @@
 -- What the definitions are, case by case. Only this crate's proofs cite these laws.
-use Rattle.std.specs.Prelude.{◌≡◌, true, false, Float}
+use Rattle.std.specs.Prelude.{◌≡◌, true, false, cond, Float}
 use Rattle.std.proofs.Math.Path.{refl}
 use Rattle.std.specs.Float.Ieee.{is_nan}
 use Rattle.signs.specs.Signs.{infinite}
@@ -8,6 +8,10 @@ use Rattle.maclaurin_series.specs.Series.{pb_maclaurin}
 use Rattle.maclaurin.specs.Maclaurin.{any_input, refusal, answer}
 
 module _ (a x c0 c1 e : Float) where
+  pub refusal_is : refusal a x c0 c1 e ≡ cond (any_input is_nan a x c0 c1 e) 1 (cond (any_input infinite a x c0 c1 e) 5 0)
+  unfolding refusal
+  refusal_is = refl
+
   pub with_nan : any_input is_nan a x c0 c1 e ≡ true → refusal a x c0 c1 e ≡ 1
   unfolding refusal
   with_nan h = rw (h)

@@ -2,14 +2,14 @@
 use Rattle.recurrence.specs.Recurrence.Open.{step_D_above, step_D_below, step_V_above, step_V_below}
 use Rattle.recurrence.proofs.step.Goals as goal
 
-pub returns-then-below : goal.returns-then-below
-returns-then-below c = rw (c.in-D.is, c.if-below.true, step_D_below _ _ _ _ _)
+pub returns-in-D-false : goal.returns-in-D-false
+returns-in-D-false c = rw (c.in-D-false.is-0, c.in-D-false.is-1, step_D_above _ _ _ _ _, c.from-k.ensures)
 
-pub returns-then-below-2 : goal.returns-then-below-2
-returns-then-below-2 c = rw (c.in-V.is, c.if-below-2.true, step_V_below _ _ _ _ _)
+pub returns-in-D-true : goal.returns-in-D-true
+returns-in-D-true c = rw (c.in-D-true.is-0, c.in-D-true.is-1, step_D_below _ _ _ _ _, c.from-k.ensures)
 
-pub returns-else-below : goal.returns-else-below
-returns-else-below c = rw (c.in-D.is, c.if-below.false, step_D_above _ _ _ _ _)
+pub returns-in-V-false : goal.returns-in-V-false
+returns-in-V-false c = rw (c.in-V-false.is-0, c.in-V-false.is-1, step_V_above _ _ _ _ _, c.from-k.ensures)
 
-pub returns-else-below-2 : goal.returns-else-below-2
-returns-else-below-2 c = rw (c.in-V.is, c.if-below-2.false, step_V_above _ _ _ _ _)
+pub returns-in-V-true : goal.returns-in-V-true
+returns-in-V-true c = rw (c.in-V-true.is-0, c.in-V-true.is-1, step_V_below _ _ _ _ _, c.from-k.ensures)

@@ -1,6 +1,4 @@
-use mathlib.Core.Path.{◌≡◌}
-use mathlib.Core.Bool.{false}
-use Prim.Native.Nat.{◌-◌}
+use Rattle.std.proofs.Common.{◌≡◌, ◌-◌, false}
 use Rattle.floats.specs.Loops.{count_up}
 use Rattle.start_sums_large.specs.StartSums.{dvla_turn, dvla_sum}
 use Rattle.start_sums_large.proofs.dvla_sum.Given as goal

@@ -21,3 +21,7 @@ dvla_below x va n = rw (n, negated_not_below x n)
 pub vvla_below : (x va : Float) → lt x f0 ≡ true → vvla x va ≡ vvla_joined va (vvla_expansion x va) (dvla (neg x) va)
 unfolding dvla vvla
 vvla_below x va n = rw (n, negated_not_below x n)
+
+pub ruleset dvla_cases = (dvla_above, dvla_below)
+
+pub ruleset vvla_cases = (vvla_above, vvla_below)

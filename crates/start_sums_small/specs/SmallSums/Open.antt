@@ -22,6 +22,8 @@ pub dvsa_series : (x va : Float) → eq va f0 ≡ false → eq x f0 ≡ false
 unfolding dvsa
 dvsa_series x va o a = rw (o, a)
 
+pub ruleset dvsa_cases = (dvsa_order_zero, dvsa_at_zero_law, dvsa_series)
+
 -- ---- vvsa
 
 pub vvsa_at_zero_law : (x va : Float) → eq x f0 ≡ true → vvsa x va ≡ vvsa_at_zero va
@@ -32,3 +34,5 @@ pub vvsa_series : (x va : Float) → eq x f0 ≡ false
     → vvsa x va ≡ (vvsa_sum x va (order_sine va) (vvsa_first va)).2 ⊗ vvsa_factor x va
 unfolding vvsa
 vvsa_series x va a = rw a
+
+pub ruleset vvsa_cases = (vvsa_at_zero_law, vvsa_series)

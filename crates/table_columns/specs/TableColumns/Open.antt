@@ -1,7 +1,7 @@
 -- What each shut definition is, for the proofs of this crate. No other crate cites this module.
 use Rattle.std.specs.Prelude.{◌≡◌, refl, List, Bool, ◌&&◌, cond, eqb, ℕ, ◌+◌, length, Float}
 use Rattle.floats.specs.declared.Function.{Function}
-use Rattle.rungs.specs.declared.Sequence.{Sequence}
+use Rattle.order.specs.declared.Sequence.{Sequence}
 use Rattle.recurrence.specs.Recurrence.{own_rung_two}
 use Rattle.rungs.specs.ColumnValues.{value, derivative_at}
 use Rattle.slots.specs.Slots.{filled}

@@ -1,6 +1,6 @@
 -- What the shut definition is, for the proofs of this crate. No other crate cites this module.
 use Rattle.std.specs.Prelude.{◌≡◌, refl, List, cond, ℕ, ◌+◌, length, Float}
-use Rattle.rungs.specs.declared.Sequence.{Sequence}
+use Rattle.order.specs.declared.Sequence.{Sequence}
 use Rattle.rungs.specs.ColumnValues.{value}
 use Rattle.slots.specs.Slots.{filled}
 use Rattle.value_column.specs.ValueColumn.{room_up_to, all_values}

@@ -2,4 +2,4 @@
 use Rattle.gozhnerim.proofs.answers.gozhnerim_d_table.Goals as goal
 
 pub returns : goal.returns
-returns c = record { answer = c.d_table.ensures.answer; table = c.d_table.ensures.table }
+returns c = record { answer = c.table.ensures.answer; table = c.table.ensures.table }

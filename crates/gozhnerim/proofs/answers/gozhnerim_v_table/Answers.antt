@@ -2,4 +2,4 @@
 use Rattle.gozhnerim.proofs.answers.gozhnerim_v_table.Goals as goal
 
 pub returns : goal.returns
-returns c = record { answer = c.v_table.ensures.answer; table = c.v_table.ensures.table }
+returns c = record { answer = c.table.ensures.answer; table = c.table.ensures.table }

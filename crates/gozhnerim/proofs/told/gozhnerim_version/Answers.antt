@@ -1,5 +1,5 @@
 -- `gozhnerim::told::gozhnerim_version` meets its contract: the number computed.
-use mathlib.Core.Path.{refl}
+use Rattle.std.proofs.Common.{refl}
 use Rattle.gozhnerim.specs.Version.{version}
 use Rattle.gozhnerim.proofs.told.gozhnerim_version.Goals as goal
 

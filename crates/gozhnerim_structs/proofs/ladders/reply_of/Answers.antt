@@ -1,9 +1,17 @@
--- `gozhnerim_structs::ladders::reply_of` meets its contract: the state, the answer and the count, each by its own function.
-use Rattle.ladder.specs.Ladder.{given_by}
-use Rattle.gozhnerim_structs.specs.Answers.{answer_of}
-use Rattle.gozhnerim_structs.specs.Ladders.{reply_of}
+-- `gozhnerim_structs::ladders::reply_of` meets its contract: each arm is the definitions' clause.
+use Rattle.std.proofs.Common.{ne_eqb}
+use Rattle.std.specs.Float.Ieee.{of_bits}
+use Rattle.answer.specs.Answer.{refusal_of}
+use Rattle.answer.proofs.Laws.{numbered}
+use Rattle.ladder.specs.Ladder.{written_of, pair_in, given_by}
+use Rattle.gozhnerim_structs.specs.Answers.{pair_or_nan}
+use Rattle.gozhnerim_structs.specs.Ladders.{handed_back, count_of, reply_of}
 use Rattle.gozhnerim_structs.proofs.ladders.reply_of.Goals as goal
 
-pub returns : goal.returns
-unfolding given_by answer_of reply_of
-returns c = rw (c.handed_back.ensures, c.count_of.ensures, c.flat-numbers.ensures)
+pub returns-in-Ok : goal.returns-in-Ok
+unfolding refusal_of written_of pair_in given_by pair_or_nan handed_back count_of reply_of
+returns-in-Ok c = rw (c.in-Ok.is, c.from.ensures)
+
+pub returns-in-Err : goal.returns-in-Err
+unfolding refusal_of written_of pair_in given_by pair_or_nan handed_back count_of reply_of of_bits
+returns-in-Err c = rw (c.in-Err.is, c.from-in-Err.ensures, ne_eqb _ 0 (numbered c.in-Err.refusal))

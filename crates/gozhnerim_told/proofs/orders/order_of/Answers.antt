@@ -1,18 +1,22 @@
--- `gozhnerim_told::orders::order_of` meets its contract: a case for each answer of its tests.
-use mathlib.Core.Path.{sym, ◌∙◌}
-use Rattle.gozhnerim_told.specs.Orders.{order_refusal, order_in}
+-- `gozhnerim_told::orders::order_of` meets its contract: what is refused for the order alone.
+use Rattle.std.proofs.Common.{arith}
+use Rattle.std.proofs.lemmas.Bool.Decides.{nat_tests}
+use Rattle.answer.specs.Answer.{refusal_of}
+use Rattle.answer.proofs.Laws.{numbered}
+use Rattle.gozhnerim_told.specs.Orders.{order_in}
+use Rattle.gozhnerim_told.proofs.Told.{by_order}
 use Rattle.gozhnerim_told.proofs.orders.order_of.Goals as goal
 
-pub returns-then-is_nan : goal.returns-then-is_nan
-unfolding order_refusal order_in
-returns-then-is_nan c = rw (sym c.is_nan.ensures ∙ c.if-is_nan.true, c.refused.ensures)
+pub returns-in-Ok : goal.returns-in-Ok
+unfolding order_in refusal_of
+returns-in-Ok c =
+    let e = c.in-Ok.ensures in
+    let k = by_order c.args.v in
+    grind (arith, nat_tests, e, k)
 
-pub returns-then-too_large : goal.returns-then-too_large
-unfolding order_refusal order_in
-returns-then-too_large c =
-    rw (sym c.is_nan.ensures ∙ c.if-is_nan.false, sym c.too_large.ensures ∙ c.if-too_large.true, c.refused-then-too_large.ensures)
-
-pub returns : goal.returns
-unfolding order_refusal order_in
-returns c =
-    rw (sym c.is_nan.ensures ∙ c.if-is_nan.false, sym c.too_large.ensures ∙ c.if-too_large.false, c.accepted.ensures)
+pub returns-in-Err : goal.returns-in-Err
+unfolding order_in refusal_of
+returns-in-Err c =
+    let e = c.in-Err.ensures in
+    let k = by_order c.args.v in
+    grind (arith, nat_tests, e, k, numbered)

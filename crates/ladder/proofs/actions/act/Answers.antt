@@ -1,30 +1,28 @@
 -- `ladder::actions::act` meets its contract: each arm's action is the clause of what the machine says.
-use Rattle.std.proofs.Common.{◌≡◌, ap, ◌≤◌, ◌<◌, arith, rules, length, T}
-use lib.Ieee.{binary64, fits}
+use Rattle.std.proofs.Common.{◌≡◌, ap, ◌≤◌, ◌<◌, arith, rules, length, T, Ok}
+use Rattle.std.specs.Float.{binary64}
+use Rattle.std.specs.Float.Ieee.{fits}
 use Rattle.order.specs.Order.{top_rung}
-use Rattle.ladder_machine.specs.Machine.{asks, refusal, refuses, repeats, climbs, starts_over}
+use Rattle.ladder_machine.specs.declared.Case.{Case}
+use Rattle.ladder_machine.specs.Machine.{asks, refusal, repeats, climbs, starts_over}
 use Rattle.ladder_machine.specs.Held.{verdict_of}
 use Rattle.ladder_climb.proofs.Room.{room_above_law}
-use Rattle.ladder.proofs.Outcomes.{repeat_held, climb_room, start_room, refused_outcome, repeated_outcome, climbed_outcome, started_outcome, climbed_n, state_n}
+use Rattle.ladder.proofs.Outcomes.{repeat_held, climb_room, start_room, repeated_outcome, climbed_outcome, started_outcome, climbed_n, state_n}
 use Rattle.ladder.proofs.actions.act.Goals as goal
-use Rattle.ladder.proofs.actions.act.Goals.{In-Refused, In-Repeat, In-Climb, In-StartOver}
+use Rattle.ladder.proofs.actions.act.Goals.{In-Repeat, In-Climb, In-StartOver}
 
--- the judgement, in the machine's words
-refuses-told : (c : In-Refused) → verdict_of c.args.judgement ≡ refuses c.in-Refused.number
+-- the case, in the machine's words
+repeats-told : (c : In-Repeat) → verdict_of (Ok c.args.case) ≡ repeats c.in-Repeat.field-0
 unfolding verdict_of
-refuses-told c = ap verdict_of c.in-Refused.is
+repeats-told c = ap (λ (k : Case). verdict_of (Ok k)) c.in-Repeat.is
 
-repeats-told : (c : In-Repeat) → verdict_of c.args.judgement ≡ repeats c.in-Repeat.n
+climbs-told : (c : In-Climb) → verdict_of (Ok c.args.case) ≡ climbs c.in-Climb.from c.in-Climb.to
 unfolding verdict_of
-repeats-told c = ap verdict_of c.in-Repeat.is
+climbs-told c = ap (λ (k : Case). verdict_of (Ok k)) c.in-Climb.is
 
-climbs-told : (c : In-Climb) → verdict_of c.args.judgement ≡ climbs c.in-Climb.from c.in-Climb.to
+starts-told : (c : In-StartOver) → verdict_of (Ok c.args.case) ≡ starts_over c.in-StartOver.n
 unfolding verdict_of
-climbs-told c = ap verdict_of c.in-Climb.is
-
-starts-told : (c : In-StartOver) → verdict_of c.args.judgement ≡ starts_over c.in-StartOver.n
-unfolding verdict_of
-starts-told c = ap verdict_of c.in-StartOver.is
+starts-told c = ap (λ (k : Case). verdict_of (Ok k)) c.in-StartOver.is
 
 climb-fits : (c : In-Climb) → T (fits binary64 c.args.v)
 climb-fits c = search rules
@@ -36,10 +34,10 @@ start-fits c = search rules
 climbs-in : (c : In-Climb)
     → let g = c.args in
     let n = c.in-Climb.to in
-    (1 ≤ g.s.n) × (g.s.n < n) × (n ≤ 1000) × (n < length g.values.now) × (n ≤ length g.derivatives.now) × (g.s.n ≡ c.in-Climb.from)
+    (1 ≤ g.state.held.n) × (g.state.held.n < n) × (n ≤ 1000) × (n < length g.values.now) × (n ≤ length g.derivatives.now) × (g.state.held.n ≡ c.in-Climb.from)
 climbs-in c =
     let g = c.args in
-    climb_room g.s (asks g.function g.v g.x) g.values.now g.derivatives.now (verdict_of g.judgement) c.requires (climb-fits c) _ _ (climbs-told c)
+    climb_room g.state (asks g.function g.v g.x) g.values.now g.derivatives.now _ c.requires (climb-fits c) _ _ (climbs-told c)
 
 starts-in : (c : In-StartOver)
     → let g = c.args in
@@ -47,14 +45,14 @@ starts-in : (c : In-StartOver)
     (refusal (asks g.function g.v g.x) (length g.values.now) (length g.derivatives.now) ≡ 0) × (top_rung g.v ≡ n) × (1 ≤ n) × (n ≤ 1000)
 starts-in c =
     let g = c.args in
-    start_room g.s (asks g.function g.v g.x) g.values.now g.derivatives.now (verdict_of g.judgement) c.requires (start-fits c) _ (starts-told c)
+    start_room g.state (asks g.function g.v g.x) g.values.now g.derivatives.now _ c.requires (start-fits c) _ (starts-told c)
 
 repeats-held : (c : In-Repeat)
     → let g = c.args in
-    (1 ≤ g.s.n) × (g.s.n ≡ c.in-Repeat.n)
+    (1 ≤ g.state.held.n) × (g.state.held.n ≡ c.in-Repeat.field-0)
 repeats-held c =
     let g = c.args in
-    repeat_held g.s (asks g.function g.v g.x) g.values.now g.derivatives.now (verdict_of g.judgement) c.requires _ (repeats-told c)
+    repeat_held g.state (asks g.function g.v g.x) g.values.now g.derivatives.now _ c.requires _ (repeats-told c)
 
 pub answer-requires : goal.answer-requires
 answer-requires c = (repeats-held (goal.at.answer-requires c).In-Repeat).0
@@ -82,9 +80,6 @@ pub answer-requires-in-StartOver : goal.answer-requires-in-StartOver
 answer-requires-in-StartOver c =
     let r = starts-in (goal.at.answer-requires-in-StartOver c).In-StartOver in
     rw (c.start_over.ensures.state, state_n _ _) (omega (arith, r))
-
-pub returns-in-Refused : goal.returns-in-Refused
-returns-in-Refused c = refused_outcome _ _ _ _ _ _ _ (refuses-told (goal.at.returns-in-Refused c).In-Refused) c.refuse.ensures
 
 pub returns-in-Repeat : goal.returns-in-Repeat
 returns-in-Repeat c =

@@ -1,13 +1,14 @@
 -- `ladder::actions::climb` meets its contract: the climb from the state's two values, which has room.
-use mathlib.Core.Path.{◌∙◌}
+use Rattle.std.proofs.Common.{◌∙◌}
 use Rattle.ladder.proofs.Climbs.{climbed_state, climbed_values_law, climbed_derivatives_law}
 use Rattle.ladder.proofs.actions.climb.Goals as goal
 
 pub returns : goal.returns
 returns c =
-    let sequence = c.sequence_in-sequence in
-    let g = c.args in
-    let r = sequence.result in
-    let l = g.values.now in
-    let d = g.derivatives.now in
-    record { state = c.state_of.ensures ∙ climbed_state g.s r g.top l d sequence.ensures c.requires c.climb-held.result.low c.climb-held.result.high c.climb-held.ensures.top; values = climbed_values_law g.s r g.top l d sequence.ensures c.requires c.climb-held.new.values c.climb-held.ensures.values; derivatives = climbed_derivatives_law g.s r g.top l d sequence.ensures c.requires c.climb-held.new.derivatives c.climb-held.ensures.derivatives }
+    let e = c.climb-two.ensures in
+    let s = c.args.state in
+    record {
+      state = c.new.ensures.state ∙ climbed_state s _ _ _ c.requires _ _ e.top;
+      values = climbed_values_law s _ _ _ c.requires _ e.values;
+      derivatives = climbed_derivatives_law s _ _ _ c.requires _ e.derivatives;
+    }

@@ -1,12 +1,16 @@
--- `rungs::start::start_value` meets its contract: the test is the definition's.
-use mathlib.Core.Path.{◌∙◌}
-use Rattle.rungs.proofs.Cases.{start_small, start_large}
+-- `rungs::start::start_value` meets its contract: each arm calls the sum that the definition names.
+use Rattle.std.proofs.Common.{arith}
+use Rattle.rungs.specs.Rungs.Open.{start_value_is, start_sum_D_small, start_sum_D_large, start_sum_V_small, start_sum_V_large}
 use Rattle.rungs.proofs.start.start_value.Goals as goal
 
-pub returns-then-abs-small_limit : goal.returns-then-abs-small_limit
-returns-then-abs-small_limit c =
-    c.start_sum.ensures ∙ start_small _ _ (rw (c.abs.ensures, c.small_limit.ensures) at c.if-abs-small_limit.true)
+pub returns-in-D-true : goal.returns-in-D-true
+returns-in-D-true c = grind (arith, start_value_is, start_sum_D_small, start_sum_D_large, start_sum_V_small, start_sum_V_large)
 
-pub returns : goal.returns
-returns c =
-    c.start_sum-2.ensures ∙ start_large _ _ (rw (c.abs.ensures, c.small_limit.ensures) at c.if-abs-small_limit.false)
+pub returns-in-D-false : goal.returns-in-D-false
+returns-in-D-false c = grind (arith, start_value_is, start_sum_D_small, start_sum_D_large, start_sum_V_small, start_sum_V_large)
+
+pub returns-in-V-true : goal.returns-in-V-true
+returns-in-V-true c = grind (arith, start_value_is, start_sum_D_small, start_sum_D_large, start_sum_V_small, start_sum_V_large)
+
+pub returns-in-V-false : goal.returns-in-V-false
+returns-in-V-false c = grind (arith, start_value_is, start_sum_D_small, start_sum_D_large, start_sum_V_small, start_sum_V_large)

@@ -1,14 +1,14 @@
-use mathlib.Core.Path.{◌≡◌}
-use Prim.Native.Nat.{◌+◌, ◌-◌, ◌≤◌}
-use lib.ListN.{length}
+use Rattle.std.proofs.Common.{◌≡◌, ◌+◌, ◌-◌, ◌≤◌, length, min}
 use Rattle.rungs.specs.Rungs.{descent}
 use Rattle.slots.specs.Slots.{filled}
 use Rattle.value_column.proofs.downward.descend.Given as goal
 
 abbrev pub invariant-loop-k : goal.invariant-loop-k
 invariant-loop-k l =
-    (l.k ≤ l.top) × (length l.t ≡ length l.initial.t) × (l.a ≡ descent l.sequence l.top l.low l.high l.k) × (l.b ≡ descent l.sequence l.top l.low l.high (l.k + 1))
-    × (l.t ≡ filled (descent l.sequence l.top l.low l.high) l.k l.k (l.top - l.k) l.initial.t)
-
-abbrev pub decreases-loop-k : goal.decreases-loop-k
-decreases-loop-k l = l.k
+    let value = descent l.sequence l.top l.initial.two.low l.initial.two.high in
+    record {
+      below : l.k ≤ l.top;
+      low : l.two.low ≡ value l.k;
+      high : l.two.high ≡ value (l.k + 1);
+      slots : l.t ≡ filled value l.k l.k (min l.top (length l.initial.t) - l.k) l.initial.t;
+    }

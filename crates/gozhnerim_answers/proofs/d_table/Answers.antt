@@ -1,8 +1,0 @@
--- `gozhnerim_answers::d_table` meets its contract: the call's own, with the answer flat.
-use mathlib.Core.Path.{ap₂, ◌∙◌}
-use Rattle.gozhnerim_structs.specs.Answers.{answer_of}
-use Rattle.gozhnerim_answers.proofs.d_table.Goals as goal
-
-pub returns : goal.returns
-returns c =
-    record { answer = c.flat.ensures ∙ ap₂ answer_of c.table.ensures.number c.table.ensures.pair; table = c.table.ensures.after }

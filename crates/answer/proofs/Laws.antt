@@ -1,5 +1,5 @@
 -- What is answered by a refusal's number.
-use Rattle.std.proofs.Common.{◌≡◌, ℕ, Float, Result, Ok, Err, sym, ◌∙◌, ap, arith, eq-eqb, ne_eqb}
+use Rattle.std.proofs.Common.{◌≡◌, refl, ℕ, Float, Result, Ok, Err, sym, ◌∙◌, ap, arith, eq-eqb, ne_eqb}
 use Rattle.std.proofs.Math.Option.{some, none}
 use Rattle.answer.specs.declared.Pair.{Pair}
 use Rattle.answer.specs.declared.Refusal.{Refusal}
@@ -37,3 +37,25 @@ module _ {A : Type 0} (test : Result A Refusal) (n : ℕ) (e : refusal_of test �
   pub passed : (a : A) → test ≡ Ok a → n ≡ 0
   unfolding refusal_of
   passed a h = sym e ∙ ap (λ t. refusal_of t) h
+
+-- the refusal's number of a test or a request, as equations
+pub not_refused : (A : Type 0) (a : A) → refusal_of {A = A} (Ok a) ≡ 0
+unfolding refusal_of
+not_refused A a = refl
+
+pub refused_by : (A : Type 0) (refusal : Refusal) → refusal_of {A = A} (Err refusal) ≡ number refusal
+unfolding refusal_of
+refused_by A refusal = refl
+
+pub ruleset refusal_numbers = (not_refused, refused_by)
+
+-- and the pair of a request
+pub pair_given : (pair : Pair) → pair_of (Ok pair) ≡ some (pair.value, pair.derivative)
+unfolding pair_of
+pair_given pair = refl
+
+pub no_pair : (refusal : Refusal) → pair_of (Err refusal) ≡ none
+unfolding pair_of
+no_pair refusal = refl
+
+pub ruleset answer_laws = (refusal_numbers, pair_given, no_pair)

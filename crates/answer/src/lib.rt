@@ -32,6 +32,7 @@ pub type Answer = Result<Pair, Refusal>;
 impl From<Refusal> for u32 {
     ghost from_gives = { λ refusal n. n ≡ number refusal };
 
+    #[tactic(auto, unfolding(crate::specs::Answer::number))]
     fn from(refusal: Refusal) -> u32 {
         refusal as u32
     }

@@ -1,6 +1,6 @@
 // The branch of a table: which of its rungs are worked out first. Each public function answers every input.
 
-#![tactic(auto)]
+#![tactic(auto, using(crate::specs::Branches::Open::laws))]
 
 ghost use Rattle.std.specs.Prelude.{◌≡◌};
 ghost use Rattle.branches.specs.Branches.{order_is_low, runs_down, branch_of, runs_forward};
@@ -59,6 +59,7 @@ pub fn runs_forward(sequence: Sequence, u: f64) -> bool
 
 // The theorem that the branches are those of 01's words and the source's. The statement is specs/As01.antt, the proof
 // proofs/As01.antt.
+#[tactic(auto, using(crate::proofs::As01::branches_as_01))]
 pub fn as_01()
     ensures { BranchesAs01 }
 {}

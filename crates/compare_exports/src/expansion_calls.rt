@@ -7,6 +7,7 @@ ghost use Rattle.expansion_polynomials.specs.Polynomials.{uv_poly, u_sum, v_sum}
 ghost use Rattle.expansion_elementary.specs.Mantissas.{mantissas};
 
 use expansion_polynomials::Sums;
+use mul_exp::Mantissas;
 
 // The sums of u_s and of v_s. A struct of C.
 #[repr(C)]
@@ -16,6 +17,15 @@ pub struct ComparedSums {
     pub v: f64,
 }
 
+impl From<Sums> for ComparedSums {
+    ghost from_gives = { λ sums compared. (compared.u ≡ sums.u) × (compared.v ≡ sums.v) };
+
+    fn from(sums: Sums) -> ComparedSums {
+        let Sums { u, v } = sums;
+        ComparedSums { u, v }
+    }
+}
+
 // D and its derivative as mantissas with one exponent. A struct of C.
 #[repr(C)]
 #[derive(Clone, Copy)]
@@ -23,6 +33,21 @@ pub struct ComparedMantissas {
     pub value: f64,
     pub derivative: f64,
     pub exponent: f64,
+}
+
+impl From<Mantissas> for ComparedMantissas {
+    ghost from_gives = { λ mantissas compared. (compared.value ≡ mantissas.pair.value)
+        × (compared.derivative ≡ mantissas.pair.derivative)
+        × (compared.exponent ≡ mantissas.exponent) };
+
+    fn from(mantissas: Mantissas) -> ComparedMantissas {
+        let Mantissas { pair, exponent } = mantissas;
+        ComparedMantissas {
+            value: pair.value,
+            derivative: pair.derivative,
+            exponent,
+        }
+    }
 }
 
 #[unsafe(no_mangle)]
@@ -66,8 +91,7 @@ pub extern "C" fn compared_uv_sums(t: f64, w: f64) -> ComparedSums
     ensures u { result.u ≡ u_sum t w }
     ensures v { result.v ≡ v_sum t w }
 {
-    let Sums { u, v } = expansion_polynomials::uv_sums(t, w);
-    ComparedSums { u, v }
+    ComparedSums::from(expansion_polynomials::uv_sums(t, w))
 }
 
 #[unsafe(no_mangle)]
@@ -76,10 +100,5 @@ pub extern "C" fn compared_pbdv_elementary(v: f64, x: f64) -> ComparedMantissas
     ensures derivative { result.derivative ≡ (mantissas v x).1 }
     ensures exponent { result.exponent ≡ (mantissas v x).2 }
 {
-    let m = expansion_elementary::pbdv_elementary(v, x);
-    ComparedMantissas {
-        value: m.pair.value,
-        derivative: m.pair.derivative,
-        exponent: m.exponent,
-    }
+    ComparedMantissas::from(expansion_elementary::pbdv_elementary(v, x))
 }

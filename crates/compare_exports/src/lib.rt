@@ -29,7 +29,7 @@ pub extern "C" fn compared_abs(x: f64) -> f64
 pub extern "C" fn compared_is_nan(x: f64) -> bool
     ensures { result ≡ is_nan x }
 {
-    signs::is_nan(x)
+    x.is_nan()
 }
 
 #[unsafe(no_mangle)]

@@ -1,6 +1,6 @@
 // The derivatives of D and V. The function answers every input.
 
-#![tactic(auto)]
+#![tactic(auto, using(crate::specs::Derivatives::Open::laws))]
 
 ghost use Rattle.std.specs.Prelude.{◌≡◌};
 ghost use Rattle.derivatives.specs.Derivatives.{derivative};

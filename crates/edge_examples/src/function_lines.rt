@@ -1,6 +1,8 @@
 // The functions below the tables.
 
 use crate::printing::{Bits, Shown};
+use answer::Pair;
+use mul_exp::Mantissas;
 use std::f64::consts::PI;
 use std::io;
 
@@ -35,6 +37,13 @@ pub fn whole_orders(rt: &HostRuntime) -> io::Result<()> {
 pub fn maxima(rt: &HostRuntime) -> io::Result<()> {
     line(rt, "max(NaN, 1)", extremes::max(f64::NAN, 1.0))?;
     line(rt, "max(1, NaN)", extremes::max(1.0, f64::NAN))?;
-    let series = maclaurin::maclaurin(1e300, 1e10, 1.0, -1.0, 0.0);
+    let start = Mantissas {
+        pair: Pair {
+            value: 1.0,
+            derivative: -1.0,
+        },
+        exponent: 0.0,
+    };
+    let series = maclaurin::maclaurin(1e300, 1e10, start);
     println!(rt; "maclaurin(1e300, 1e10, 1, -1, 0): {}", Shown(series))
 }

@@ -2,6 +2,7 @@
 
 use crate::printing::{Shown, Slots};
 use floats::Function::{self, D, V};
+use ladder_machine::Request;
 use ladder_states::Ladder;
 use std::io;
 
@@ -23,7 +24,7 @@ impl Session {
         }
     }
 
-    // One request.
+    // One request. Function, order and argument stand apart, so that a call of it reads as its text does.
     fn line(
         &mut self,
         rt: &HostRuntime,
@@ -32,11 +33,10 @@ impl Session {
         v: f64,
         x: f64,
     ) -> io::Result<()> {
+        let request = Request { function, v, x };
         let reply = ladder::request(
             self.ladder,
-            function,
-            v,
-            x,
+            request,
             &mut self.values,
             &mut self.derivatives,
         );

@@ -8,13 +8,15 @@ ghost use Rattle.expansion.specs.Expansion.{refusal, answer};
 
 use answer::{Answer, Refusal};
 use expansion_elementary::pbdv_elementary;
-use signs::{is_infinite, is_nan};
+use mul_exp::mul_exp_both;
+use signs::is_infinite;
 
 // Whether the request is refused: a NaN, an order outside the expansion's range, an infinite argument.
+#[tactic(auto, using(crate::proofs::Cases::cases), unfolding(answer::specs::Answer::number))]
 fn check(v: f64, x: f64) -> Result<(), Refusal>
     ensures { refusal_of result ≡ refusal v x }
 {
-    if is_nan(v) || is_nan(x) {
+    if v.is_nan() || x.is_nan() {
         return Err(Refusal::NotANumber);
     }
     if !(-2147483648.0 < v && v <= -20.0) {
@@ -33,5 +35,5 @@ pub fn d_expansion(v: f64, x: f64) -> Answer
 {
     check(v, x)?;
     let m = pbdv_elementary(v, x);
-    Ok(mul_exp::mul_exp_both(m.pair, m.exponent))
+    Ok(mul_exp_both(m))
 }

@@ -1,9 +1,10 @@
 -- A test that antt computes over two lists at once, and the law that carries it to each place; the test of two floats for equality.
-use Rattle.std.proofs.Common.{◌≡◌, refl, ap, Bool, true, false, ◌&&◌, List, [], ◌∷◌, ℕ, zero, suc, ◌<◌}
+use Rattle.std.proofs.Common.{◌≡◌, ap, Bool, true, false, ◌&&◌, List, [], ◌∷◌, ℕ, zero, suc, ◌<◌}
 use Rattle.std.proofs.Common.{le_of_suc-le-suc, not-suc-le-zero, T, eqb, eqb→eq, ℤ, pos, negsuc, Float, length, get_or}
 use Rattle.std.specs.Float.{nan, inf, fin}
 use Rattle.std.specs.Float.Ieee.Fits.{and_l, and_r}
 use Rattle.std.proofs.Math.Bool.{beq}
+use Rattle.floats.proofs.Booleans.{beq_same}
 
 -- ---- every number below n
 
@@ -45,12 +46,6 @@ same_float (fin s m e) nan = false
 same_float (fin s m e) (inf t) = false
 same_float (fin s m e) (fin t n d) = beq s t && (eqb m n && same_int e d)
 
-same_sign : (a b : Bool) → T (beq a b) → a ≡ b
-same_sign true true t = refl
-same_sign true false t = absurd t
-same_sign false true t = absurd t
-same_sign false false t = refl
-
 same_int_law : (a b : ℤ) → T (same_int a b) → a ≡ b
 same_int_law (pos a) (pos b) t = ap pos (eqb→eq a b t)
 same_int_law (pos a) (negsuc b) t = absurd t
@@ -64,7 +59,7 @@ same_float_law (fin s m e) nan t = absurd t
 same_float_law (fin s m e) (inf u) t = absurd t
 same_float_law (fin s m e) (fin u n d) t =
     let rest = and_r (beq s u) (eqb m n && same_int e d) t in
-    let hs : s ≡ u = same_sign s u (and_l (beq s u) (eqb m n && same_int e d) t) in
+    let hs : s ≡ u = beq_same s u (and_l (beq s u) (eqb m n && same_int e d) t) in
     let hm : m ≡ n = eqb→eq m n (and_l (eqb m n) (same_int e d) rest) in
     let he : e ≡ d = same_int_law e d (and_r (eqb m n) (same_int e d) rest) in
     cc

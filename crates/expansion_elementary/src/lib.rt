@@ -9,14 +9,8 @@ ghost use Rattle.expansion_elementary.specs.Mantissas.{logarithm_of, exponent_of
 use answer::Pair;
 use expansion_polynomials::uv_sums;
 use logarithm::ln;
+use mul_exp::Mantissas;
 use roots::square_root;
-
-// D and its derivative as mantissas with one exponent: each is its mantissa times e^exponent.
-#[derive(Clone, Copy)]
-pub struct Mantissas {
-    pub pair: Pair,
-    pub exponent: f64,
-}
 
 // ln(x/2 + s), without cancellation below 0.
 #[tactic(auto, unfolding(crate::specs::Mantissas::logarithm_of))]

@@ -5,8 +5,8 @@ use Rattle.std.specs.Float.{Float, nan, inf, fin}
 use Rattle.std.specs.Float.Ieee.{up, down, neg, lt, le, ne, of_bits}
 use Rattle.std.specs.Float.Ieee.Exact.{HasValue}
 use Rattle.std.specs.Int.Signed.{mag}
+use Rattle.std.proofs.lemmas.Bool.{or_parts}
 use Rattle.floats.specs.Operations.{◌⊗◌}
-use Rattle.floats.proofs.Booleans.{neither}
 use Rattle.floats.proofs.Bounds.{mul_between}
 use Rattle.near.specs.Near.{near}
 use Rattle.near.proofs.NearRange.{AtMost, at_most, near_at_most}
@@ -47,7 +47,7 @@ exp2_kept (inf true) p q r = absurd (subst T r tt)
 exp2_kept (inf false) p q r = absurd (subst T q tt)
 exp2_kept (fin true m e) p q r = let k = ltb-false (1080 * down e) (m * up e * 1) r in at_most true m e 1080 (omega arith)
 exp2_kept (fin false m e) p q r =
-    let k = ltb-false (1024 * down e) (m * up e * 1) (neither q).0 in
+    let k = ltb-false (1024 * down e) (m * up e * 1) (or_parts _ _ q).0 in
     at_most false m e 1080 (omega arith)
 
 pub exp2_exponent : (y : Float) → ne y y ≡ false → le exp2_highest y ≡ false → lt y (neg exp2_lowest) ≡ false → mag (near y) ≤ 1081

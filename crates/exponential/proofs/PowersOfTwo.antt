@@ -7,16 +7,13 @@ use Rattle.std.specs.Float.Ieee.{minus, odd, of_fields, of_bits, nan_bits}
 use Rattle.std.proofs.Math.Nat.{mul-mod_left}
 use Rattle.std.specs.Int.Signed.{mag}
 use Rattle.std.specs.Int.Count.{count_trailing_zeros}
-use borrow.Author.Tests.{lt-leb}
+use Rattle.std.proofs.lemmas.Bool.{lt-leb}
+use Rattle.std.proofs.Math.Bool.{and-false}
 
 -- a pattern whose digits are all 0 is no NaN's
 pub no_nan : (e : ℕ) → T (not (nan_bits binary64 (e * 4503599627370496)))
 unfolding nan_bits
-no_nan e = rw (mul-mod_left e 4503599627370496) (go (eqb (e * 4503599627370496 % 9223372036854775808 / 4503599627370496) 2047))
-  where
-    go : (b : Bool) → T (not (b && false))
-    go true = tt
-    go false = tt
+no_nan e = rw (mul-mod_left e 4503599627370496, and-false (eqb (e * 4503599627370496 % 9223372036854775808 / 4503599627370496) 2047)) tt
 
 -- a field above 0 and below 2047, and digits that are all 0
 of_field : (e : ℕ) → 0 < e → e < 2047 → of_bits binary64 (e * 4503599627370496) ≡ fin false 1 (minus (e + 51) 1074)

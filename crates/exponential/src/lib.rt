@@ -6,8 +6,8 @@ ghost use Rattle.std.specs.Prelude.{◌≡◌, ◌≤◌};
 ghost use Rattle.std.specs.Int.Signed.{mag};
 ghost use Rattle.exponential.specs.Exponential.{power_of_two, scaled, exp_sum, exp, exp2, exp_m1};
 
-use floats::LN_2;
 use near::near;
+use std::f64::consts::{LN_2, LOG2_E};
 
 // 2^h, by its bit pattern.
 #[tactic(auto, using(crate::proofs::PowersOfTwo::power_laws))]
@@ -52,7 +52,7 @@ pub fn exp(y: f64) -> f64
     } else if y < -745.2 {
         0.0
     } else {
-        let k = near(y * 1.4426950408889634);
+        let k = near(y * LOG2_E);
         let f = f64::from(k);
         let r = y - f * 0.6931471803691238 - f * 1.9082149292705877e-10;
         scaled(exp_sum(r, 1), k)

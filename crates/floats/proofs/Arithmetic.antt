@@ -1,7 +1,7 @@
 -- A sum, a difference, a product and a quotient, by any fractions that the operands equal.
 use Rattle.std.proofs.Common.{◌≡◌, refl, sym, ap, ◌∙◌, subst, ℕ, zero, suc, ◌+◌, ◌-◌, ◌*◌, ◌≤◌, ◌<◌, lt_irrefl}
-use Rattle.std.proofs.Common.{not-le_of_lt, zero-lt-suc, zero-mul, mul_comm, mul-pos, Bool, true, false, not, ◌&&◌}
-use Rattle.std.proofs.Common.{cond, ℤ, T, ltb, eqb, ltb→lt, eqb→eq, Float}
+use Rattle.std.proofs.Common.{zero-lt-suc, zero-mul, mul-pos, Bool, true, false, not, ◌&&◌}
+use Rattle.std.proofs.Common.{cond, ℤ, ltb, Float, ap₂, arith, le-ltb, ne_eqb}
 use Rattle.std.specs.Float.{nan, inf, fin, Format}
 use Rattle.std.specs.Float.Ieee.{up, down, round, neg, sum, add, sub, unlike, mul, div}
 use Rattle.std.specs.Float.Ieee.Exact.{HasValue}
@@ -54,14 +54,8 @@ sum_plus f false a b c = refl
 -- a - b for b ≤ a, with the sign of a, and +0 where it is 0
 pub sum_minus : (f : Format) (s : Bool) (a b c : ℕ) → b ≤ a → sum f s a (not s) b c ≡ round f (s && ltb b a) (a - b) c
 unfolding sum
-sum_minus f s a b c h = go s (ltb a b) (ltb→lt a b)
-  where
-    go : (s x : Bool) → (T x → a < b)
-        → cond (beq s (not s)) (round f s (a + b) c) (cond x (round f (not s) (b - a) c) (round f (s && ltb b a) (a - b) c)) ≡ round f (s && ltb b a) (a - b) c
-    go true true k = absurd (not-le_of_lt (k tt) h)
-    go false true k = absurd (not-le_of_lt (k tt) h)
-    go true false k = refl
-    go false false k = refl
+sum_minus f true a b c h = rw (le-ltb a b h)
+sum_minus f false a b c h = rw (le-ltb a b h)
 
 -- ---- a product
 
@@ -80,20 +74,12 @@ mul_at f (fin u m e) (fin r n g) s a c t b d C D v w =
 
 -- ---- a quotient, the divisor not 0
 
-digits_pos : (n : ℕ) (g : ℤ) (b d : ℕ) → 0 < b → n * up g * d ≡ b * down g → 0 < n
+pub digits_pos : (n : ℕ) (g : ℤ) (b d : ℕ) → 0 < b → n * up g * d ≡ b * down g → 0 < n
 digits_pos zero g b d B w = absurd (lt_irrefl 0 (subst (λ (z : ℕ). 0 < z) (sym w ∙ ap (λ (z : ℕ). z * d) (zero-mul (up g)) ∙ zero-mul d) (mul-pos B (down_pos g))))
 digits_pos (suc n) g b d B w = zero-lt-suc n
 
 cross_quotient : (X d a e c Y b D : ℕ) → X * c ≡ a * e → Y * d ≡ b * D → X * D * (b * c) ≡ a * d * (Y * e)
-cross_quotient X d a e c Y b D v w =
-    mul-mul-mul_comm X D b c
-    ∙ ap (λ (z : ℕ). X * b * z) (mul_comm D c)
-    ∙ mul-mul-mul_comm X b c D
-    ∙ ap (λ (z : ℕ). z * (b * D)) v
-    ∙ ap (λ (z : ℕ). a * e * z) (sym w)
-    ∙ ap (λ (z : ℕ). a * e * z) (mul_comm Y d)
-    ∙ mul-mul-mul_comm a e d Y
-    ∙ ap (λ (z : ℕ). a * d * z) (mul_comm e Y)
+cross_quotient X d a e c Y b D v w = let k : X * c * (b * D) ≡ a * e * (Y * d) = ap₂ (λ (p q : ℕ). p * q) v (sym w) in omega arith
 
 pub div_at : (f : Format) (x y : Float) (s : Bool) (a c : ℕ) (t : Bool) (b d : ℕ) → 0 < c → 0 < d → 0 < b → HasValue x s a c → HasValue y t b d
     → div f x y ≡ round f (unlike s t) (a * d) (b * c)
@@ -104,13 +90,8 @@ div_at f (fin u m e) nan s a c t b d C D B v w = absurd w
 div_at f (fin u m e) (inf r) s a c t b d C D B v w = absurd w
 div_at f (fin u m e) (fin r n g) s a c t b d C D B v w =
     let N = digits_pos n g b d B w.1 in
-    go (eqb n 0) (λ t. lt_irrefl 0 (subst (λ (z : ℕ). 0 < z) (eqb→eq n 0 t) N))
-    ∙ round_same f (unlike u r) (m * up e * down g) (n * up g * down e) (a * d) (b * c) (mul-pos (mul-pos N (up_pos g)) (down_pos e)) (mul-pos B C)
+    rw (ne_eqb n 0 (λ e. omega arith))
+    (round_same f (unlike u r) (m * up e * down g) (n * up g * down e) (a * d) (b * c) (mul-pos (mul-pos N (up_pos g)) (down_pos e)) (mul-pos B C)
     (cross_quotient (m * up e) d a (down e) c (n * up g) b (down g) v.1 w.1)
     ∙ ap (λ (z : Bool). round f (unlike z r) (a * d) (b * c)) v.0
-    ∙ ap (λ (z : Bool). round f (unlike s z) (a * d) (b * c)) w.0
-  where
-    go : (z : Bool) → (T z → ⊥)
-        → cond z (cond (eqb m 0) nan (inf (unlike u r))) (round f (unlike u r) (m * up e * down g) (n * up g * down e)) ≡ round f (unlike u r) (m * up e * down g) (n * up g * down e)
-    go true k = absurd (k tt)
-    go false k = refl
+    ∙ ap (λ (z : Bool). round f (unlike s z) (a * d) (b * c)) w.0)

@@ -1,20 +1,22 @@
 -- Bounds of a size go through the operations of binary64, where the ends are values that it holds: rounding does not cross them.
 use Rattle.std.proofs.Common.{◌≡◌, refl, sym, ◌∙◌, ap, subst, ℕ, ◌+◌, ◌-◌, ◌*◌, ◌/◌, ◌^◌, ◌≤◌, ◌<◌, zero, suc, min}
 use Rattle.std.proofs.Common.{Bool, true, false, not, cond, ◌&&◌, ◌||◌, le_refl, le_trans, le_antisymm, le_of_lt}
-use Rattle.std.proofs.Common.{le_of_suc-le-suc, lt_of_lt_of_le, div-lt_iff_lt-mul, le-div_iff_mul-le, mul_assoc}
+use Rattle.std.proofs.Common.{le_of_suc-le-suc, lt_of_lt_of_le, div-lt_iff_lt-mul, le-div_iff_mul-le}
 use Rattle.std.proofs.Common.{mul-pos, zero-mul, mul-le-mul_right, mul-lt-mul_of_pos_right, le_of_mul-le-mul_right}
 use Rattle.std.proofs.Common.{lt_of_mul-lt-mul_right, arith, lt-ltb, ne_eqb, T, ltb, eqb, lit<, pos, neg_ℤ, pow-add}
-use Rattle.std.proofs.Common.{pow_mono, pow_pos, Float}
+use Rattle.std.proofs.Common.{pow_mono, pow_pos, Float, mul_comm, one-mul, mul-one, zero-le}
 use Rattle.std.specs.Float.{fin, binary64}
-use Rattle.std.specs.Float.Ieee.{size, round, sum, neg, add, sub, mul, odd, le, fits, unlike, of_bits, to_signed}
+use Rattle.std.specs.Float.Ieee.{size, round, sum, neg, add, sub, mul, odd, le, fits, unlike, to_signed}
 use Rattle.std.specs.Float.Ieee.Exact.{HasValue, odd_sign}
 use Rattle.std.specs.Float.Ieee.Fits.{odd-fits, round-fits}
 use Rattle.std.specs.Float.Ieee.Scale.{grid}
 use Rattle.std.proofs.Math.Bool.{beq}
+use Rattle.std.proofs.Math.Nat.{min-eq_left}
+use Rattle.floats.proofs.Powers.{shl_split}
 use Rattle.floats.specs.Operations.{f0}
 use Rattle.floats.specs.Facts.{Between, signed_int}
 use Rattle.floats.proofs.Tests.{sub_mul}
-use Rattle.floats.proofs.Values.{rescale, neg_value, zero_value, value_unique, to_signed_at}
+use Rattle.floats.proofs.Values.{rescale, neg_value, value_unique, to_signed_at, zero_over}
 use Rattle.floats.proofs.Comparison.{le_at}
 use Rattle.floats.proofs.Arithmetic.{add_at, sub_at, mul_at, sum_plus, sum_minus}
 use Rattle.floats.proofs.Rounding.{round_value, grid_le, grid_ge, grid_mono}
@@ -29,15 +31,12 @@ record Held (q j : ℕ) : Type 0 where
 
 held : (q j : ℕ) → q < 2 ^ 53 → j ≤ 1074 → Held q j
 held q j h k =
-    let back : 1074 - j + j ≡ 1074 = omega arith in
     let room : 53 + (1074 - j) ≤ 2098 = omega arith in
-    let whole : q * 2 ^ (1074 - j) * 2 ^ j ≡ q * 2 ^ 1074 =
-    mul_assoc q (2 ^ (1074 - j)) (2 ^ j) ∙ ap (λ (z : ℕ). q * z) (sym (pow-add 2 (1074 - j) j) ∙ ap (λ (z : ℕ). 2 ^ z) back) in
     record {
       at = odd 53 false q (1074 - j) 1074;
       fit = odd-fits binary64 53 false q (1074 - j) h (le_of_lt h)
           (lt_of_lt_of_le (mul-lt-mul_of_pos_right h (pow_pos (1074 - j))) (subst (λ (z : ℕ). z ≤ 2 ^ 2098) (pow-add 2 53 (1074 - j)) (pow_mono room)));
-      value = rescale (odd 53 false q (1074 - j) 1074) false (q * 2 ^ (1074 - j)) (2 ^ 1074) q (2 ^ j) (pow_pos 1074) whole (odd_sign 53 false q (1074 - j) 1074);
+      value = rescale (odd 53 false q (1074 - j) 1074) false (q * 2 ^ (1074 - j)) (2 ^ 1074) q (2 ^ j) (pow_pos 1074) (sym (shl_split q 1074 j k)) (odd_sign 53 false q (1074 - j) 1074);
     }
 
 -- ---- rounding
@@ -70,25 +69,17 @@ neg_between x s l u d b =
 
 -- ---- a product with a known value
 
-turn : (k d e c : ℕ) → k * (d * e) * c ≡ k * (c * e) * d
-turn k d e c = omega arith
-
-swap : (l c b j : ℕ) → l * c * (b * j) ≡ l * b * j * c
-swap l c b j = omega arith
-
 scale_least : (l c a d b e k j : ℕ) → 0 < d → l * c ≤ a * d → k * (d * e) ≤ l * b * j → k * (c * e) ≤ a * b * j
 scale_least l c a d b e k j D p q =
-    le_of_mul-le-mul_right {k = d}
-    (le_trans (subst (λ (z : ℕ). z ≤ l * b * j * c) (turn k d e c) (mul-le-mul_right c q))
-    (subst (λ (z : ℕ). z ≤ a * b * j * d) (swap l c b j) (subst (λ (z : ℕ). l * c * (b * j) ≤ z) (swap a d b j) (mul-le-mul_right (b * j) p))))
-    D
+    let m = mul-le-mul_right (b * j) p in
+    let n = mul-le-mul_right c q in
+    le_of_mul-le-mul_right {k = d} (omega arith) D
 
 scale_most : (u c a d b e k j : ℕ) → 0 < d → a * d ≤ u * c → u * b * j ≤ k * (d * e) → a * b * j ≤ k * (c * e)
 scale_most u c a d b e k j D p q =
-    le_of_mul-le-mul_right {k = d}
-    (le_trans (subst (λ (z : ℕ). z ≤ u * c * (b * j)) (swap a d b j) (mul-le-mul_right (b * j) p))
-    (subst (λ (z : ℕ). z ≤ k * (c * e) * d) (sym (swap u c b j)) (subst (λ (z : ℕ). u * b * j * c ≤ z) (turn k d e c) (mul-le-mul_right c q))))
-    D
+    let m = mul-le-mul_right (b * j) p in
+    let n = mul-le-mul_right c q in
+    le_of_mul-le-mul_right {k = d} (omega arith) D
 
 pub mul_between : (x y : Float) (s t : Bool) (l u d b e l' u' j : ℕ) → 0 < d → 0 < e → l' < 2 ^ 53 → u' < 2 ^ 53 → j ≤ 1074
     → Between x s l u d → HasValue y t b e → l' * (d * e) ≤ l * b * 2 ^ j → u * b * 2 ^ j ≤ u' * (d * e)
@@ -103,13 +94,7 @@ mul_between x y s t l u d b e l' u' j D E L U J w v p q =
 sum_over : (x y : Float) (s : Bool) (a c : ℕ) (t : Bool) (b e : ℕ) → 0 < c → 0 < e → HasValue x s a c → HasValue y t b e
     → add binary64 x y ≡ sum binary64 s (a * e) t (b * c) (c * e)
 sum_over x y s a c t b e C E v w =
-    add_at binary64 x y s (a * e) t (b * c) (c * e) (mul-pos C E) (rescale x s a c (a * e) (c * e) C (first a c e) v) (rescale y t b e (b * c) (c * e) E (second b c e) w)
-  where
-    first : (a c e : ℕ) → a * (c * e) ≡ a * e * c
-    first a c e = omega arith
-
-    second : (b c e : ℕ) → b * (c * e) ≡ b * c * e
-    second b c e = omega arith
+    add_at binary64 x y s (a * e) t (b * c) (c * e) (mul-pos C E) (rescale x s a c (a * e) (c * e) C (omega arith) v) (rescale y t b e (b * c) (c * e) E (omega arith) w)
 
 -- the size of a sum is at most the sum of the sizes
 size_most : (s : Bool) (a : ℕ) (t : Bool) (b : ℕ) → sum_size s a t b ≤ a + b
@@ -122,15 +107,15 @@ size_most s a t b = go (beq s t) (ltb a b)
 
 sum_least : (l c a d b e k j : ℕ) → 0 < d → l * c ≤ a * d → k * (d * e) ≤ (l * e + b * d) * j → k * (c * e) ≤ (a * e + b * c) * j
 sum_least l c a d b e k j D p q =
-    let n = mul-le-mul_right (e * j) p in
-    let m : (l * e + b * d) * j * c ≤ (a * e + b * c) * j * d = omega arith in
-    le_of_mul-le-mul_right {k = d} (le_trans (subst (λ (z : ℕ). z ≤ (l * e + b * d) * j * c) (turn k d e c) (mul-le-mul_right c q)) m) D
+    let m = mul-le-mul_right (e * j) p in
+    let n = mul-le-mul_right c q in
+    le_of_mul-le-mul_right {k = d} (omega arith) D
 
 sum_most : (u c a d b e k j : ℕ) → 0 < d → a * d ≤ u * c → (u * e + b * d) * j ≤ k * (d * e) → (a * e + b * c) * j ≤ k * (c * e)
 sum_most u c a d b e k j D p q =
-    let n = mul-le-mul_right (e * j) p in
-    let m : (a * e + b * c) * j * d ≤ (u * e + b * d) * j * c = omega arith in
-    le_of_mul-le-mul_right {k = d} (le_trans m (subst (λ (z : ℕ). (u * e + b * d) * j * c ≤ z) (turn k d e c) (mul-le-mul_right c q))) D
+    let m = mul-le-mul_right (e * j) p in
+    let n = mul-le-mul_right c q in
+    le_of_mul-le-mul_right {k = d} (omega arith) D
 
 -- of one sign
 pub plus_between : (x y : Float) (s : Bool) (l u d b e l' u' j : ℕ) → 0 < d → 0 < e → l' < 2 ^ 53 → u' < 2 ^ 53 → j ≤ 1074
@@ -154,7 +139,7 @@ at_most x y s a c t b e u j C E U J w v q =
       r,
       subst (λ (z : Float). Between z r 0 u (2 ^ j))
           (sym (sum_over x y s a c t b e C E w v ∙ sum_round binary64 s (a * e) t (b * c) (c * e)))
-          (round_between r n (c * e) 0 u j (mul-pos C E) (pow_pos 53) U J (subst (λ (z : ℕ). z ≤ n * 2 ^ j) (sym (zero-mul (c * e))) Prim.Native.Nat.zero-le) q),
+          (round_between r n (c * e) 0 u j (mul-pos C E) (pow_pos 53) U J (subst (λ (z : ℕ). z ≤ n * 2 ^ j) (sym (zero-mul (c * e))) zero-le) q),
     )
 
 pub any_between : (x y : Float) (s t : Bool) (u d b e u' j : ℕ) → 0 < d → 0 < e → u' < 2 ^ 53 → j ≤ 1074
@@ -184,12 +169,9 @@ close_between x y s l u m n w j W J f g p q =
     let e = g.over in
     at_most x y s a c (not s) b e w j f.positive g.positive W J f.value g.value
     (size s (a * e) (b * c) (2 ^ j) (w * (c * e))
-    (subst (λ (z : ℕ). a * e * 2 ^ j ≤ b * c * 2 ^ j + w * z) (swap_product e c) (difference_most m e b (2 ^ j) u c a w g.least f.most p))
+    (subst (λ (z : ℕ). a * e * 2 ^ j ≤ b * c * 2 ^ j + w * z) (mul_comm e c) (difference_most m e b (2 ^ j) u c a w g.least f.most p))
     (difference_most l c a (2 ^ j) n e b w f.least g.most q))
   where
-    swap_product : (e c : ℕ) → e * c ≡ c * e
-    swap_product e c = omega arith
-
     size : (s : Bool) (i i' k v : ℕ) → i * k ≤ i' * k + v → i' * k ≤ i * k + v → sum_size s i (not s) i' * k ≤ v
     size s i i' k v p q = go s (ltb i i')
       where
@@ -248,10 +230,6 @@ apart_between x y s l u m n l' u' j P L U J f g p q =
 
 -- ---- the test against 0
 
-zero_over : (c : ℕ) → HasValue f0 false 0 c
-unfolding of_bits
-zero_over c = zero_value c
-
 pub above_zero : (x : Float) (l u d : ℕ) → Between x false l u d → le f0 x ≡ true
 above_zero x l u d b = le_at f0 x false 0 false b.size b.over b.positive (zero_over b.over) b.value ∙ go b.size
   where
@@ -274,12 +252,9 @@ pub cut_between : (x : Float) (s : Bool) (l u d h : ℕ) → 0 < d → h < 2 ^ 3
 cut_between x s l u d h D H w p q =
     to_signed_at 31 x s w.size w.over w.positive w.value
     ∙ ap (λ (z : ℕ). cond s (neg_ℤ (pos (min z (2 ^ 31)))) (pos (min z (2 ^ 31 - 1)))) (whole w.size w.over w.positive w.least w.most)
-    ∙ ap (λ (z : ℕ). cond s (neg_ℤ (pos z)) (pos (min h (2 ^ 31 - 1)))) (below h 2147483648 (omega arith))
-    ∙ ap (λ (z : ℕ). cond s (neg_ℤ (pos h)) (pos z)) (below h 2147483647 (omega arith))
+    ∙ ap (λ (z : ℕ). cond s (neg_ℤ (pos z)) (pos (min h (2 ^ 31 - 1)))) (min-eq_left {m = 2147483648} (omega arith))
+    ∙ ap (λ (z : ℕ). cond s (neg_ℤ (pos h)) (pos z)) (min-eq_left {m = 2147483647} (omega arith))
   where
-    below : (h n : ℕ) → h ≤ n → min h n ≡ h
-    below h n k = omega arith
-
     whole : (a c : ℕ) → 0 < c → l * c ≤ a * d → a * d ≤ u * c → a / c ≡ h
     whole a c C i k = le_antisymm (le_of_suc-le-suc ((div-lt_iff_lt-mul C).1 high)) ((le-div_iff_mul-le C).1 low)
       where
@@ -316,9 +291,6 @@ one_less w b =
     let c = b.over in
     let few = b.most in
     let low : (2 ^ 60 - 1) * c ≤ (c - a) * (2 ^ 60) = rw (sub_mul c a (2 ^ 60)) (omega arith) in
-    sub_at binary64 (fin false 1 (pos 0)) w false c false a c b.positive (refl, one c) b.value
+    sub_at binary64 (fin false 1 (pos 0)) w false c false a c b.positive (refl, one-mul c ∙ sym (mul-one c)) b.value
     ∙ sum_minus binary64 false c a c (omega arith)
     ∙ rounds_to_one (c - a) c b.positive low (omega arith)
-  where
-    one : (c : ℕ) → 1 * c ≡ c * 1
-    one c = omega arith

@@ -1,5 +1,6 @@
 pub mod Booleans
 pub mod Tests
+pub mod Powers
 pub mod Values
 pub mod Arithmetic
 pub mod Comparison
@@ -12,3 +13,4 @@ pub mod Bounds
 pub mod Loops
 pub mod Countdown
 pub mod Horner
+pub mod Examples

@@ -10,7 +10,7 @@ use Rattle.std.specs.Float.Ieee.Fits.{down_pos}
 use Rattle.std.specs.Float.Ieee.Order.{round_mono}
 use Rattle.std.specs.Float.Ieee.Scale.{grid, overflow, finite}
 use Rattle.std.proofs.Math.Bool.{beq}
-use Rattle.floats.proofs.Tests.{lt_or_ge}
+use Rattle.std.proofs.lemmas.Bool.{cases_lt}
 use Rattle.floats.specs.Facts.{SignedLe}
 use Rattle.floats.proofs.Values.{rescale, fin_value}
 use Rattle.floats.proofs.Arithmetic.{add_at}
@@ -39,12 +39,12 @@ low_low = tt
 
 -- one below zero, the other zero or above
 apart : (f : Format) (a c b d : ℕ) → T (le (round f true a c) (round f false b d))
-apart f a c b d = elim (lt_or_ge (grid f a c) (overflow f)) [
-  | inl g ↦ elim (lt_or_ge (grid f b d) (overflow f)) [
+apart f a c b d = elim (cases_lt (grid f a c) (overflow f)) [
+  | inl g ↦ elim (cases_lt (grid f b d) (overflow f)) [
     | inl h ↦ subst T (sym (le_at (round f true a c) (round f false b d) true (grid f a c) false (grid f b d) (2 ^ low f) (pow_pos (low f)) (round_value f true a c g) (round_value f false b d h))) (test_of_signed_le true (grid f a c) false (grid f b d) tt)
     | inr h ↦ subst (λ (z : Float). T (le (round f true a c) z)) (sym (round_inf f false b d h)) (le_high (round f true a c) true (grid f a c) (2 ^ low f) (round_value f true a c g))
   ]
-  | inr g ↦ subst (λ (z : Float). T (le z (round f false b d))) (sym (round_inf f true a c g)) (elim (lt_or_ge (grid f b d) (overflow f)) [
+  | inr g ↦ subst (λ (z : Float). T (le z (round f false b d))) (sym (round_inf f true a c g)) (elim (cases_lt (grid f b d) (overflow f)) [
     | inl h ↦ low_le (round f false b d) false (grid f b d) (2 ^ low f) (round_value f false b d h)
     | inr h ↦ subst (λ (z : Float). T (le (inf true) z)) (sym (round_inf f false b d h)) low_high
   ])
@@ -52,11 +52,11 @@ apart f a c b d = elim (lt_or_ge (grid f a c) (overflow f)) [
 
 -- both below zero: b / d ≤ a / c in size
 both_below : (f : Format) (a c b d : ℕ) → 0 < c → 0 < d → b * c ≤ a * d → T (le (round f true a c) (round f true b d))
-both_below f a c b d C D h = elim (lt_or_ge (grid f a c) (overflow f)) [
+both_below f a c b d C D h = elim (cases_lt (grid f a c) (overflow f)) [
   | inl g ↦
       let m = grid_mono f b d a c D C h g in
       subst T (sym (le_at (round f true a c) (round f true b d) true (grid f a c) true (grid f b d) (2 ^ low f) (pow_pos (low f)) (round_value f true a c g) (round_value f true b d m.0))) (test_of_signed_le true (grid f a c) true (grid f b d) m.1)
-  | inr g ↦ subst (λ (z : Float). T (le z (round f true b d))) (sym (round_inf f true a c g)) (elim (lt_or_ge (grid f b d) (overflow f)) [
+  | inr g ↦ subst (λ (z : Float). T (le z (round f true b d))) (sym (round_inf f true a c g)) (elim (cases_lt (grid f b d) (overflow f)) [
     | inl k ↦ low_le (round f true b d) true (grid f b d) (2 ^ low f) (round_value f true b d k)
     | inr k ↦ subst (λ (z : Float). T (le (inf true) z)) (sym (round_inf f true b d k)) low_low
   ])
@@ -140,10 +140,7 @@ signed_le_sum s a t b r e h =
     let x = raised_sum M s a r e (omega arith) in
     let y = raised_sum M t b r e (omega arith) in
     raised_signed_le M (sum_sign s a r e) (sum_size s a r e) (sum_sign t b r e) (sum_size t b r e) x.1 y.1
-    (shift (raised M (sum_sign s a r e) (sum_size s a r e)) (raised M (sum_sign t b r e) (sum_size t b r e)) M (raised M s a) (raised M t b) (raised M r e) x.0 y.0 (signed_le_raised M s a t b h))
-  where
-    shift : (p q M i j k : ℕ) → p + M ≡ i + k → q + M ≡ j + k → i ≤ j → p ≤ q
-    shift p q M i j k x y h = omega arith
+    (omega (arith, x.0, y.0, signed_le_raised M s a t b h))
 
 signed_le_scale : (s : Bool) (a : ℕ) (t : Bool) (b c : ℕ) → SignedLe s a t b → SignedLe s (a * c) t (b * c)
 signed_le_scale false a false b c h = mul-le-mul_right c h

@@ -1,25 +1,26 @@
 -- The whole part and the fraction of a value of size 1 or more: both are exact, and their sum is the value.
 use Rattle.std.proofs.Common.{◌≡◌, refl, sym, ap, ◌∙◌, subst, inl, inr, ℕ, ◌+◌, ◌-◌, ◌*◌, ◌/◌, ◌%◌, ◌^◌, ◌≤◌, ◌<◌}
-use Rattle.std.proofs.Common.{le_trans, le_of_eq, le_of_lt, lt_of_le_of_lt, zero-lt-suc, mul-one, one-mul, mul_assoc}
+use Rattle.std.proofs.Common.{le_trans, le_of_eq, le_of_lt, lt_of_le_of_lt, zero-lt-suc, mul-one, one-mul}
 use Rattle.std.proofs.Common.{mul-pos, sub-add_cancel, div-add-mod', div-mul-le_self, le-div_iff_mul-le, mul-div_cancel}
-use Rattle.std.proofs.Common.{add-zero, arith, Bool, true, false, not, ◌&&◌, cond, T, ltb, ltb→lt, lt→ltb, nltb→le}
-use Rattle.std.proofs.Common.{pow-add, pow_pos, Float}
+use Rattle.std.proofs.Common.{add-zero, arith, Bool, true, false, ◌&&◌, T, ltb, ltb→lt, lt→ltb}
+use Rattle.std.proofs.Common.{pow-add, pow_pos, Float, le-ltb, lt-ltb, zero, suc, zero-le}
 use Rattle.std.specs.Float.{Format}
 use Rattle.std.specs.Float.Ieee.{prec, low, round, sum, add, sub, fits, of_int}
 use Rattle.std.specs.Float.Ieee.Exact.{HasValue, round_exact}
 use Rattle.std.proofs.Math.Nat.{eq_of_mul-eq-mul_right, mod-eq-sub-div-mul, mod-le, mul-mod_left, sub-zero}
 use Rattle.std.specs.Float.Ieee.Scale.{overflow}
 use Rattle.std.proofs.Math.Arith.{mod-mul}
+use Rattle.std.proofs.lemmas.Bool.{cases_lt}
+use Rattle.floats.proofs.Powers.{shl_split}
 use Rattle.floats.specs.Facts.{signed_int}
 use Rattle.floats.proofs.Booleans.{same_test}
-use Rattle.floats.proofs.Tests.{lt_or_ge}
 use Rattle.floats.proofs.Values.{value_finite, cross, rescale, of_int_value}
 use Rattle.floats.proofs.Arithmetic.{add_at, sub_at, sum_minus}
 use Rattle.floats.proofs.Rounding.{on_grid, round_back}
 
 -- what is left of q * 2 ^ j after its multiples of 2 ^ l is such a number again
 pub mod_rep : (q j l : ℕ) → (k : ℕ) × (i : ℕ) × (k ≤ q) × (q * 2 ^ j % 2 ^ l ≡ k * 2 ^ i)
-mod_rep q j l = elim (lt_or_ge j l) [
+mod_rep q j l = elim (cases_lt j l) [
   | inl a ↦ (
     q % 2 ^ (l - j),
     j,
@@ -34,23 +35,14 @@ mod_rep q j l = elim (lt_or_ge j l) [
   | inr b ↦ (
     0,
     0,
-    Prim.Native.Nat.zero-le,
-    ap (λ (z : ℕ). q * 2 ^ z % 2 ^ l) (sym (sub-add_cancel b))
-        ∙ ap (λ (z : ℕ). q * z % 2 ^ l) (pow-add 2 (j - l) l)
-        ∙ ap (λ (z : ℕ). z % 2 ^ l) (sym (mul_assoc q (2 ^ (j - l)) (2 ^ l)))
-        ∙ mul-mod_left (q * 2 ^ (j - l)) (2 ^ l),
+    zero-le,
+    ap (λ (z : ℕ). z % 2 ^ l) (shl_split q j l b) ∙ mul-mod_left (q * 2 ^ (j - l)) (2 ^ l),
   )
 ]
 
 -- a is below a + r exactly where r is above 0
 more_test : (a r w : ℕ) → a + r ≡ w → ltb a w ≡ ltb 0 r
-more_test a r w e = same_test (ltb a w) (ltb 0 r) (λ x. lt→ltb 0 r (fwd (ltb→lt a w x))) (λ x. lt→ltb a w (bwd (ltb→lt 0 r x)))
-  where
-    fwd : a < w → 0 < r
-    fwd h = omega arith
-
-    bwd : 0 < r → a < w
-    bwd h = omega arith
+more_test a r w e = same_test (ltb a w) (ltb 0 r) (λ x. lt→ltb 0 r (omega (arith, ltb→lt a w x))) (λ x. lt→ltb a w (omega (arith, ltb→lt 0 r x)))
 
 -- ---- a value u of U units, of which 2 ^ low make 1, and 1 at least in size: U / 2 ^ low is its whole part, U % 2 ^ low the units of its fraction
 
@@ -90,22 +82,8 @@ module _ (f : Format) (t : Bool) (U : ℕ) (u : Float) (fit : T (fits f u)) (val
 pub sum_rejoin : (f : Format) (t : Bool) (a r c : ℕ) → 0 < a → sum f t a (t && ltb 0 r) r c ≡ round f t (a + r) c
 unfolding sum
 sum_rejoin f false a r c p = refl
-sum_rejoin f true a r c p = go (ltb 0 r) (nltb→le 0 r)
-  where
-    none : (r : ℕ) → r ≤ 0 → r ≡ 0
-    none r h = omega arith
-
-    at_zero : (x y : Bool) → (T x → a < 0) → T y → cond x (round f false (0 - a) c) (round f (true && y) (a - 0) c) ≡ round f true (a + 0) c
-    at_zero true y h k = absurd (bad a (h tt))
-      where
-        bad : (a : ℕ) → a < 0 → ⊥
-        bad a h = omega arith
-    at_zero false true h k = ap (λ (z : ℕ). round f true z c) (sub-zero a ∙ sym (add-zero a))
-    at_zero false false h k = absurd k
-
-    go : (b : Bool) → (T (not b) → r ≤ 0) → sum f true a (true && b) r c ≡ round f true (a + r) c
-    go true h = refl
-    go false h = subst (λ (z : ℕ). sum f true a false z c ≡ round f true (a + z) c) (sym (none r (h tt))) (at_zero (ltb a 0) (ltb 0 a) (ltb→lt a 0) (lt→ltb 0 a p))
+sum_rejoin f true a zero c p = rw (le-ltb a 0 zero-le, lt-ltb 0 a p, sub-zero a, add-zero a)
+sum_rejoin f true a (suc r) c p = rw (lt-ltb 0 (suc r) (zero-lt-suc r))
 
 -- the whole part and the fraction, added, are the value again
 pub rejoin : (f : Format) (t : Bool) (U : ℕ) (u : Float) → T (fits f u) → HasValue u t U (2 ^ low f) → 2 ^ low f ≤ U → U / 2 ^ low f ≤ 2 ^ prec f

@@ -1,30 +1,28 @@
 -- What a format holds, in units of its smallest value, and what `round` gives: a value that the format holds stays, and none is crossed.
 use Rattle.std.proofs.Common.{◌≡◌, refl, sym, ap, ◌∙◌, subst, inl, inr, ℕ, zero, suc, ◌+◌, ◌-◌, ◌*◌, ◌%◌, ◌^◌, ◌≤◌, ◌<◌}
-use Rattle.std.proofs.Common.{le_trans, le_of_suc-le-suc, le_of_eq, le_of_lt, lt_of_lt_of_le, lt_irrefl, not-le_of_lt}
-use Rattle.std.proofs.Common.{lt_of_not-le, mul-one, one-mul, zero-mul, mul_comm, mul_assoc, mul_right_comm}
+use Rattle.std.proofs.Common.{le_trans, le_of_suc-le-suc, le_of_eq, le_of_lt, lt_of_lt_of_le}
+use Rattle.std.proofs.Common.{mul-one, one-mul, zero-mul, mul_comm, mul_assoc, mul_right_comm}
 use Rattle.std.proofs.Common.{mul-le-mul_right, mul-lt-mul_of_pos_right, le_of_mul-le-mul_right, lt_of_mul-lt-mul_right}
-use Rattle.std.proofs.Common.{sub-add_cancel, Bool, true, false, not, ◌&&◌, cond, ℤ, pos, negsuc, T, leb, ltb, eqb}
-use Rattle.std.proofs.Common.{leb→le, ltb→lt, pow-add, pow_pos, Float}
+use Rattle.std.proofs.Common.{sub-add_cancel, Bool, false, not, ◌&&◌, ℤ, pos, negsuc, T, leb, ltb, eqb}
+use Rattle.std.proofs.Common.{leb→le, ltb→lt, pow-add, pow_pos, Float, lt-suc_self, lt_of_le_of_lt, le-ltb}
 use Rattle.std.specs.Float.{nan, inf, fin, Format}
-use Rattle.std.specs.Float.Ieee.{prec, emax, low, up, down, odd, units, round, neg, le, fits}
+use Rattle.std.specs.Float.Ieee.{prec, emax, low, up, down, units, round, neg, le, fits}
 use Rattle.std.specs.Float.Ieee.Exact.{HasValue, units_val, round_exact}
 use Rattle.std.specs.Float.Ieee.Fits.{round-fits, round_is, and_l, and_r, neg-fits}
 use Rattle.std.specs.Float.Ieee.Order.{drop, kept, round_mono}
 use Rattle.std.specs.Float.Ieee.Scale.{grid, overflow, finite}
 use Rattle.std.proofs.Math.Pow.{pow-lt}
+use Rattle.std.proofs.lemmas.Bool.{cases_lt}
+use Rattle.floats.proofs.Powers.{pow_lt_back}
 use Rattle.floats.specs.Facts.{Grid}
-use Rattle.floats.proofs.Tests.{lt_or_ge}
 use Rattle.floats.proofs.Values.{value_unique, value_finite, cross, neg_value}
 use Rattle.floats.proofs.Comparison.{values_of_le}
 
 -- ---- a finite value that the format holds is q * 2 ^ j units
 
-pow_le_back : (a l : ℕ) → 2 ^ a ≤ 2 ^ l → a ≤ l
-pow_le_back a l h = le_of_suc-le-suc (lt_of_not-le (λ (g : suc l ≤ a). lt_irrefl (2 ^ l) (lt_of_lt_of_le (pow-lt g) h)))
-
 place : (l : ℕ) (e : ℤ) → down e ≤ 2 ^ l → (j : ℕ) × (up e * 2 ^ l ≡ 2 ^ j * down e)
 place l (pos a) h = (a + l, sym (pow-add 2 a l) ∙ sym (mul-one (2 ^ (a + l))))
-place l (negsuc a) h = (l - suc a, one-mul (2 ^ l) ∙ ap (λ (x : ℕ). 2 ^ x) (sym (sub-add_cancel (pow_le_back (suc a) l h))) ∙ pow-add 2 (l - suc a) (suc a))
+place l (negsuc a) h = (l - suc a, one-mul (2 ^ l) ∙ ap (λ (x : ℕ). 2 ^ x) (sym (sub-add_cancel (le_of_suc-le-suc (pow_lt_back (suc a) (suc l) (lt_of_le_of_lt h (pow-lt (lt-suc_self l))))))) ∙ pow-add 2 (l - suc a) (suc a))
 
 pub on_grid : (f : Format) (x : Float) → T (fits f x) → T (finite x) → Grid f x
 unfolding fits
@@ -72,11 +70,7 @@ round_back f x s a c C p v =
 
 units_inf : (f : Format) (s : Bool) (q k : ℕ) → overflow f ≤ q * 2 ^ k → units f s q k ≡ inf s
 unfolding units
-units_inf f s q k h = go (ltb (q * 2 ^ k) (overflow f)) (ltb→lt (q * 2 ^ k) (overflow f))
-  where
-    go : (b : Bool) → (T b → q * 2 ^ k < overflow f) → cond b (odd (suc (prec f)) s q k (low f)) (inf s) ≡ inf s
-    go true l = absurd (not-le_of_lt (l tt) h)
-    go false l = refl
+units_inf f s q k h = rw (le-ltb (q * 2 ^ k) (overflow f) h)
 
 pub round_value : (f : Format) (s : Bool) (a c : ℕ) → grid f a c < overflow f → HasValue (round f s a c) s (grid f a c) (2 ^ low f)
 round_value f s a c h = subst (λ (z : Float). HasValue z s (grid f a c) (2 ^ low f)) (sym (round_is f s a c)) (units_val f s (kept (prec f) (a * 2 ^ low f) c) (drop (prec f) (a * 2 ^ low f) c) h)
@@ -96,7 +90,7 @@ pub grid_le : (f : Format) (y : Float) (a c b d : ℕ) → 0 < c → 0 < d → T
     → (grid f a c < overflow f) × (grid f a c * d ≤ b * 2 ^ low f)
 grid_le f y a c b d C D p w h =
     let k : T (le (round f false a c) y) = subst (λ (z : Float). T (le (round f false a c) z)) (round_back f y false b d D p w) (round_mono f a c b d C D h) in
-    elim (lt_or_ge (grid f a c) (overflow f)) [
+    elim (cases_lt (grid f a c) (overflow f)) [
       | inl g ↦ (g, values_of_le (round f false a c) y (grid f a c) (2 ^ low f) b d (pow_pos (low f)) D (round_value f false a c g) w k)
       | inr g ↦ absurd (inf_above y b d w (subst (λ (z : Float). T (le z y)) (round_inf f false a c g) k))
     ]
@@ -104,7 +98,7 @@ grid_le f y a c b d C D p w h =
 pub grid_ge : (f : Format) (y : Float) (a c b d : ℕ) → 0 < c → 0 < d → T (fits f y) → HasValue y false b d → b * c ≤ a * d
     → b * 2 ^ low f ≤ grid f a c * d
 grid_ge f y a c b d C D p w h =
-    elim (lt_or_ge (grid f a c) (overflow f)) [
+    elim (cases_lt (grid f a c) (overflow f)) [
       | inl g ↦ values_of_le y (round f false a c) b d (grid f a c) (2 ^ low f) D (pow_pos (low f)) w (round_value f false a c g)
           (subst (λ (z : Float). T (le z (round f false a c))) (round_back f y false b d D p w) (round_mono f b d a c D C h))
       | inr g ↦
@@ -118,7 +112,7 @@ unfolding neg
 neg_inf s = refl
 
 pub round_neg : (f : Format) (s : Bool) (a c : ℕ) → neg (round f s a c) ≡ round f (not s) a c
-round_neg f s a c = elim (lt_or_ge (grid f a c) (overflow f)) [
+round_neg f s a c = elim (cases_lt (grid f a c) (overflow f)) [
   | inl g ↦ value_unique f (neg (round f s a c)) (round f (not s) a c) (not s) (grid f a c) (2 ^ low f) (pow_pos (low f))
       (neg-fits f (round f s a c) (round-fits f s a c)) (round-fits f (not s) a c)
       (neg_value (round f s a c) s (grid f a c) (2 ^ low f) (round_value f s a c g)) (round_value f (not s) a c g)
@@ -131,7 +125,7 @@ pub grid_mono : (f : Format) (a c b d : ℕ) → 0 < c → 0 < d → a * d ≤ b
 grid_mono f a c b d C D h g =
     let k = round_mono f a c b d C D h in
     let w = round_value f false b d g in
-    elim (lt_or_ge (grid f a c) (overflow f)) [
+    elim (cases_lt (grid f a c) (overflow f)) [
       | inl i ↦ (i, le_of_mul-le-mul_right (values_of_le (round f false a c) (round f false b d) (grid f a c) (2 ^ low f) (grid f b d) (2 ^ low f) (pow_pos (low f)) (pow_pos (low f)) (round_value f false a c i) w k) (pow_pos (low f)))
       | inr i ↦ absurd (inf_above (round f false b d) (grid f b d) (2 ^ low f) w (subst (λ (z : Float). T (le z (round f false b d))) (round_inf f false a c i) k))
     ]

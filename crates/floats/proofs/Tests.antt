@@ -1,24 +1,15 @@
 -- Tests of naturals, and of fractions over one denominator: they do not turn on the denominator.
-use Rattle.std.proofs.Common.{◌≡◌, sym, ap, ◌∙◌, subst, ◌⊎◌, inl, inr, ℕ, ◌+◌, ◌-◌, ◌*◌, ◌≤◌, ◌<◌, zero-lt-suc}
+use Rattle.std.proofs.Common.{◌≡◌, sym, ap, ◌∙◌, subst, inl, inr, ℕ, ◌+◌, ◌-◌, ◌*◌, ◌≤◌, ◌<◌}
 use Rattle.std.proofs.Common.{le_of_eq, le_of_lt, mul_comm, mul_assoc, mul_right_comm, add-mul, mul-lt-mul_of_pos_right}
-use Rattle.std.proofs.Common.{lt_of_mul-lt-mul_right, Bool, true, false, not, ◌&&◌, ◌||◌, T, ltb, eqb, ltb→lt, lt→ltb}
-use Rattle.std.proofs.Common.{nltb→le, eqb→eq}
+use Rattle.std.proofs.Common.{lt_of_mul-lt-mul_right, true, ◌&&◌, ◌||◌, T, ltb, eqb, ltb→lt, lt→ltb}
+use Rattle.std.proofs.Common.{eqb→eq}
 use Rattle.std.proofs.Math.Nat.{mul-sub, eq_of_mul-eq-mul_right}
 use Rattle.std.specs.Float.Ieee.Fits.{eq→eqb, and_l}
-use Rattle.floats.proofs.Booleans.{same_test, or_split}
-
-pub one : 0 < 1
-one = zero-lt-suc 0
-
-pub lt_or_ge : (a b : ℕ) → (a < b) ⊎ (b ≤ a)
-lt_or_ge a b = go (ltb a b) (ltb→lt a b) (nltb→le a b)
-  where
-    go : (x : Bool) → (T x → a < b) → (T (not x) → b ≤ a) → (a < b) ⊎ (b ≤ a)
-    go true p q = inl (p tt)
-    go false p q = inr (q tt)
+use Rattle.std.proofs.Math.Facts.{or_yes}
+use Rattle.floats.proofs.Booleans.{same_test}
 
 pub le_of_tests : (a b : ℕ) → T (ltb a b || (eqb a b && true)) → a ≤ b
-le_of_tests a b t = elim (or_split (ltb a b) (eqb a b && true) t) [ inl u ↦ le_of_lt (ltb→lt a b u) | inr u ↦ le_of_eq (eqb→eq a b (and_l (eqb a b) true u)) ]
+le_of_tests a b t = elim (or_yes (ltb a b) (eqb a b && true) t) [ inl u ↦ le_of_lt (ltb→lt a b u) | inr u ↦ le_of_eq (eqb→eq a b (and_l (eqb a b) true u)) ]
 
 lt_scale : (A B C a b c : ℕ) → 0 < C → 0 < c → A * c ≡ a * C → B * c ≡ b * C → A < B → a < b
 lt_scale A B C a b c P p x y h = lt_of_mul-lt-mul_right C (subst (λ (z : ℕ). z < b * C) x (subst (λ (z : ℕ). A * c < z) y (mul-lt-mul_of_pos_right h p)))

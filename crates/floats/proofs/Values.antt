@@ -13,6 +13,7 @@ use Rattle.std.specs.Float.Ieee.Fits.{down_pos}
 use Rattle.std.specs.Float.Ieee.Nearest.{div_same}
 use Rattle.std.specs.Float.Ieee.Scale.{finite}
 use Rattle.floats.specs.Facts.{signed_int}
+use Rattle.floats.specs.Operations.{bits, f0}
 
 -- a value's pattern turns on its sign and its size in units alone
 abbrev bits_at : Format → Bool → ℕ → ℕ
@@ -80,6 +81,10 @@ own_value s m e = (refl, refl)
 pub zero_value : (c : ℕ) → HasValue (fin false 0 (pos 0)) false 0 c
 zero_value c = (refl, zero-mul c)
 
+pub zero_over : (c : ℕ) → HasValue f0 false 0 c
+unfolding of_bits
+zero_over c = zero_value c
+
 -- the same over a multiple of the denominator
 pub fin_value : (s : Bool) (m : ℕ) (e : ℤ) (k C : ℕ) → C ≡ down e * k → HasValue (fin s m e) s (m * up e * k) C
 fin_value s m e k C h = (refl, ap (λ (z : ℕ). m * up e * z) (h ∙ mul_comm (down e) k) ∙ sym (mul_assoc (m * up e) k (down e)))
@@ -114,3 +119,9 @@ of_int_value f true (suc n) p h = round_whole f true (suc n) h
 pub of_int_pos : (f : Format) (n : ℕ) → n ≤ 2 ^ prec f → HasValue (of_int f (pos n)) false n 1
 unfolding of_int
 of_int_pos f n h = round_whole f false n h
+
+-- ---- `f64::NAN`
+
+pub nan_is : bits 0x7ff8_0000_0000_0000 ≡ nan
+unfolding of_bits
+nan_is = refl

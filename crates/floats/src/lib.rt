@@ -14,7 +14,7 @@ pub enum Function {
 }
 
 // A number that no function has.
-#[derive(Clone, Copy, PartialEq, Eq)]
+#[derive(Clone, Copy, PartialEq, Eq, Debug)]
 pub struct UnknownFunction {
     pub number: u32,
 }
@@ -32,11 +32,6 @@ impl TryFrom<u32> for Function {
         }
     }
 }
-
-// Constants of the source.
-pub const LN_2: f64 = 0.6931471805599453;
-
-pub const PI: f64 = 3.141592653589793;
 
 // The polynomial with these coefficients, from the highest power down, at x; 0 where there is none.
 #[inline]

@@ -1,7 +1,8 @@
 -- What the crates above may know of gamma2 beside its contract.
-use Rattle.std.proofs.Common.{◌≡◌, refl, ap, ◌∙◌, List, ℕ, pos, lit≤, get_or, Float}
+use Rattle.std.proofs.Common.{◌≡◌, refl, ap, ◌∙◌, pos, lit≤, Float}
 use Rattle.std.specs.Float.{nan}
 use Rattle.std.specs.Float.Ieee.{add, sub, mul, div, neg, lt, eq, of_bits, of_int, to_signed}
+use Rattle.floats.proofs.Examples.{entry_of}
 use Rattle.floats.specs.Operations.{◌⊗◌, ◌⊘◌, bits, decimal, pi}
 use Rattle.signs.specs.Signs.{absolute, infinite}
 use Rattle.truncation.specs.Truncation.{truncated, fraction}
@@ -10,20 +11,17 @@ use Rattle.trigonometric.proofs.QuarterTurns.{quarter_turns}
 use Rattle.gamma.specs.Constants.{pole_value}
 use Rattle.gamma.specs.Gamma.{product_turn, falling, polynomial, reciprocal_series, gamma_near, gamma_above, gamma2}
 use Rattle.gamma.specs.Gamma.Open.{gamma2_below}
-use Rattle.gamma.specs.Gamma.Examples.{computed, values, examples_hold}
+use Rattle.gamma.specs.Gamma.Examples.{examples_hold}
 
 -- ---- values from the list of examples, by their place in it
 
-pub value : (n : ℕ) → get_or computed n nan ≡ get_or values n nan
-value n = ap (λ (l : List Float). get_or l n nan) examples_hold
-
 -- P2
 pub gamma2_five : gamma2 (decimal 5 0) ≡ decimal 24 0
-gamma2_five = value 0
+gamma2_five = entry_of examples_hold 0 nan
 
 -- P3
 pub gamma2_minus_three : gamma2 (neg (decimal 3 0)) ≡ pole_value
-gamma2_minus_three = value 5
+gamma2_minus_three = entry_of examples_hold 5 nan
 
 -- ---- a value with an elementary function in it
 

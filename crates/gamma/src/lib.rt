@@ -8,8 +8,9 @@ ghost use Rattle.std.specs.Float.Ieee.{to_signed};
 ghost use Rattle.gamma.specs.Gamma.{last_of, Computes, product, factorial, falling, reciprocal_series};
 ghost use Rattle.gamma.specs.Gamma.{gamma_near, gamma_above, gamma2};
 
-use floats::{PI, polevl};
+use floats::polevl;
 use signs::{abs, is_infinite};
+use std::f64::consts::PI;
 use trigonometric::sin;
 
 // The source's table G: the coefficients of 1/Γ (DLMF 5.7.1), from the highest power down.
@@ -65,6 +66,7 @@ fn product<F: Fn(u32) -> f64>(first: u32, last: u32, factor: F) -> f64
 }
 
 // 2 * 3 * .. * m, or the first infinite product.
+#[tactic(auto, unfolding(crate::specs::Gamma::factorial))]
 fn factorial(m: u32) -> f64
     ensures { result ≡ factorial m }
 {
@@ -72,6 +74,7 @@ fn factorial(m: u32) -> f64
 }
 
 // (z - 1) * (z - 2) * .. * (z - m), or the first infinite product.
+#[tactic(auto, unfolding(crate::specs::Gamma::falling))]
 fn falling(z: f64, m: u32) -> f64
     ensures { result ≡ falling z m }
 {

@@ -8,8 +8,10 @@ ghost use Rattle.expansion.specs.Expansion as expanded;
 ghost use Rattle.maclaurin.specs.Maclaurin as maclaurin;
 ghost use Rattle.gozhnerim_structs.specs.Answers.{answer_of};
 
+use answer::Pair;
 use floats::Function;
 use gozhnerim_structs::GozhnerimAnswer;
+use mul_exp::Mantissas;
 
 #[unsafe(no_mangle)]
 pub extern "C" fn gozhnerim_d_table(v: f64, x: f64, table: &mut [f64]) -> GozhnerimAnswer
@@ -38,5 +40,12 @@ pub extern "C" fn gozhnerim_d_expansion(v: f64, x: f64) -> GozhnerimAnswer
 pub extern "C" fn gozhnerim_maclaurin(a: f64, x: f64, c0: f64, c1: f64, e: f64) -> GozhnerimAnswer
     ensures { result ≡ answer_of (maclaurin.refusal a x c0 c1 e) (maclaurin.answer a x c0 c1 e) }
 {
-    gozhnerim_answers::maclaurin(a, x, c0, c1, e)
+    let start = Mantissas {
+        pair: Pair {
+            value: c0,
+            derivative: c1,
+        },
+        exponent: e,
+    };
+    gozhnerim_answers::maclaurin(a, x, start)
 }

@@ -8,6 +8,7 @@ ghost use Rattle.gozhnerim_lists.specs.Requests.{requested_in_c};
 use floats::Function;
 use gozhnerim_lists::request_in_c;
 use gozhnerim_structs::{GozhnerimLadder, GozhnerimReply};
+use ladder_machine::Request;
 
 #[unsafe(no_mangle)]
 pub extern "C" fn gozhnerim_ladder_d(
@@ -22,7 +23,12 @@ pub extern "C" fn gozhnerim_ladder_d(
     ensures derivatives { derivatives.new
         ≡ (requested_in_c held (asks D v x) values.old derivatives.old).derivatives }
 {
-    request_in_c(held, Function::D, v, x, values, derivatives)
+    let request = Request {
+        function: Function::D,
+        v,
+        x,
+    };
+    request_in_c(held, request, values, derivatives)
 }
 
 #[unsafe(no_mangle)]
@@ -38,5 +44,10 @@ pub extern "C" fn gozhnerim_ladder_v(
     ensures derivatives { derivatives.new
         ≡ (requested_in_c held (asks «V» v x) values.old derivatives.old).derivatives }
 {
-    request_in_c(held, Function::V, v, x, values, derivatives)
+    let request = Request {
+        function: Function::V,
+        v,
+        x,
+    };
+    request_in_c(held, request, values, derivatives)
 }

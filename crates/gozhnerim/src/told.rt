@@ -8,6 +8,7 @@ ghost use Rattle.gozhnerim.specs.Version.{version};
 use gozhnerim_structs::GozhnerimReply;
 use gozhnerim_told::{GozhnerimOrder, case_of, order_of};
 
+#[tactic(auto, unfolding(crate::specs::Version::version))]
 #[unsafe(no_mangle)]
 pub extern "C" fn gozhnerim_version() -> u32
     ensures { result ≡ version }

@@ -11,6 +11,7 @@ ghost use Rattle.gozhnerim_structs.specs.Answers.{answer_of};
 
 use floats::Function;
 use gozhnerim_structs::GozhnerimAnswer;
+use mul_exp::Mantissas;
 
 pub fn table(function: Function, v: f64, x: f64, table: &mut [f64]) -> GozhnerimAnswer
     ensures answer { result ≡ answer_of (refusal v x (length table.old)) (answer function v x (length table.old)) }
@@ -25,8 +26,10 @@ pub fn d_expansion(v: f64, x: f64) -> GozhnerimAnswer
     GozhnerimAnswer::from(expansion::d_expansion(v, x))
 }
 
-pub fn maclaurin(a: f64, x: f64, c0: f64, c1: f64, e: f64) -> GozhnerimAnswer
-    ensures { result ≡ answer_of (maclaurin.refusal a x c0 c1 e) (maclaurin.answer a x c0 c1 e) }
+pub fn maclaurin(a: f64, x: f64, start: Mantissas) -> GozhnerimAnswer
+    ensures { result ≡ answer_of
+        (maclaurin.refusal a x start.pair.value start.pair.derivative start.exponent)
+        (maclaurin.answer a x start.pair.value start.pair.derivative start.exponent) }
 {
-    GozhnerimAnswer::from(maclaurin::maclaurin(a, x, c0, c1, e))
+    GozhnerimAnswer::from(maclaurin::maclaurin(a, x, start))
 }

@@ -1,6 +1,7 @@
 -- DEMAND 3 IN C: the list of the ladder's turns, in C; and any state.
 use Rattle.std.proofs.Common.{◌≡◌, ap, ◌∙◌, List, Float}
-use Rattle.ladder_machine.specs.Machine.{Request, empty}
+use Rattle.ladder_machine.specs.declared.Request.{Request}
+use Rattle.ladder_machine.specs.Machine.{empty}
 use Rattle.ladder_machine.specs.Held.{machine_of}
 use Rattle.ladder_states.specs.declared.Ladder.{Ladder}
 use Rattle.ladder_states.specs.States.{held_in}

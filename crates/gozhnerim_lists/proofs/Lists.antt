@@ -3,10 +3,10 @@
 use Rattle.std.proofs.Common.{◌≡◌, refl, sym, ap, ◌∙◌, true, List, [], ◌∷◌, map, ne_eqb, length, Float}
 use Rattle.std.proofs.Math.Option.{Option, some, none}
 use Rattle.floats.specs.declared.Function.{Function}
-use Rattle.floats.specs.declared.Function.TheVariants.{D, «V»}
-use Rattle.ladder_machine.specs.Machine.{Request, Inputs, request, asked, Machine, empty, Verdict, refuses, repeats, climbs, starts_over, refused_by, effect, verdict, next, verdicts}
+use Rattle.ladder_machine.specs.declared.Request.{Request}
+use Rattle.ladder_machine.specs.Machine.{Inputs, request, asked, Machine, empty, Verdict, refuses, repeats, climbs, starts_over, refused_by, effect, verdict, next, verdicts}
 use Rattle.ladder_machine.specs.Held.{counts_empty, machine_of}
-use Rattle.ladder_machine.proofs.Laws.{machine_empty, empty_machine, Accepts, accepts, refuses_count, repeats_count, climbs_count, starts_count, no_verdicts, more_verdicts}
+use Rattle.ladder_machine.proofs.Laws.{machine_empty, empty_machine, Accepts, accepts, written_refuses, written_repeats, written_climbs, written_starts_over, verdicts_nil, verdicts_cons}
 use Rattle.ladder_states.specs.declared.Ladder.{Ladder}
 use Rattle.ladder_states.specs.States.{held_in, empty_state}
 use Rattle.ladder_states.proofs.Laws.{nothing_held}
@@ -17,17 +17,12 @@ use Rattle.ladder_lists.proofs.Held.{table_answer}
 use Rattle.ladder_lists.proofs.Turns.{known_request}
 use Rattle.gozhnerim_structs.specs.declared.GozhnerimLadder.{GozhnerimLadder}
 use Rattle.gozhnerim_structs.specs.Answers.{pair_or_nan}
-use Rattle.gozhnerim_structs.specs.Ladders.{function_of, ladder_by, ladder_in, number_of, ladder_out, handed_back, count_of, reply_of}
+use Rattle.gozhnerim_structs.specs.Ladders.{function_of, ladder_by, ladder_in, ladder_out, handed_back, count_of, reply_of}
 use Rattle.gozhnerim_structs.proofs.Laws.{in_handed_back}
 use Rattle.gozhnerim_lists.specs.Requests.{OutcomeInC, requested_in_c}
-use Rattle.gozhnerim_lists.specs.Lists.{called_in_c, calls_in_c, lent_in_c, last_in_c, function_in, begun_by, begun_with, number_in, reply_due, due_in_c, due_all_in_c}
+use Rattle.gozhnerim_lists.specs.Lists.{called_in_c, calls_in_c, lent_in_c, last_in_c, function_in, begun_by, begun_with, reply_due, due_in_c, due_all_in_c}
 
 -- ---- the state
-
-pub same_number : (function : Function) → number_of function ≡ number_in function
-unfolding number_of number_in
-same_number D = refl
-same_number «V» = refl
 
 -- the machine begun with a state in C is the one begun with the ladder that it is
 begun_by_law : (o : Option Function) (held : GozhnerimLadder) → begun_by o held ≡ machine_of (held_in (ladder_by o held))
@@ -65,16 +60,16 @@ module _ (table : Request → List Float) (long : Long table) where
   pub due_in_c_law : (held : GozhnerimLadder) (s : Ladder) (q : Request) → Number (request q) → (l d : List Float) (m : Machine) (w : Verdict)
       → Accepts m q (length l) (length d) w → in_c held (due table s w (ask q l d)) ≡ due_in_c table held w (ask q l d)
   unfolding due state_due pair_due due_in_c reply_due reply_of handed_back count_of pair_or_nan ladder_out held_after refused_by effect
-  due_in_c_law held s q f l d m (refuses number) a = rw (ne_eqb number 0 a.1, refuses_count number)
+  due_in_c_law held s q f l d m (refuses number) a = rw (ne_eqb number 0 a.1, written_refuses number)
   due_in_c_law held s q f l d m (repeats n) a =
       let known = known_request q (length l) (length d) f.0 f.1 a.0 in
-      rw (repeats_count n, table_answer q known table long, a.1, same_number q.function)
+      rw (written_repeats n, table_answer q known table long, a.1)
   due_in_c_law held s q f l d m (climbs i n) a =
       let known = known_request q (length l) (length d) f.0 f.1 a.0 in
-      rw (climbs_count i n, table_answer q known table long, a.1, same_number q.function)
+      rw (written_climbs i n, table_answer q known table long, a.1)
   due_in_c_law held s q f l d m (starts_over n) a =
       let known = known_request q (length l) (length d) f.0 f.1 a.0 in
-      rw (starts_count n, table_answer q known table long, a.1, same_number q.function)
+      rw (written_starts_over n, table_answer q known table long, a.1)
 
   one_due : (held : GozhnerimLadder) (s : Ladder) (m : Machine) (i : Inputs) → Number i → (l d : List Float)
       → let c : Call = record { inputs = i; values = l; derivatives = d } in
@@ -86,11 +81,11 @@ module _ (table : Request → List Float) (long : Long table) where
   pub all_due : (cs : List Call) → Numbers cs → (held : GozhnerimLadder) (s : Ladder) (m : Machine)
       → all_in_c held (due_all table s (verdicts m (map fed cs)) cs) ≡ due_all_in_c table held (verdicts m (map fed cs)) cs
   unfolding due_all due_all_in_c
-  all_due [] f held s m = rw (no_verdicts m)
+  all_due [] f held s m = rw (verdicts_nil m)
   all_due (c ∷ cs) f held s m =
       let w = verdict m (fed c) in
       let rest = due_all table (due table s w c).given.state (verdicts (next m (fed c)) (map fed cs)) cs in
-      rw (more_verdicts m (fed c) (map fed cs))
+      rw (verdicts_cons m (fed c) (map fed cs))
       (ap (λ (o : OutcomeInC). o ∷ all_in_c o.reply.ladder rest) (one_due held s m c.inputs f.0 c.values c.derivatives)
       ∙ ap (λ (os : List OutcomeInC). due_in_c table held w c ∷ os) (all_due cs f.1 (due_in_c table held w c).reply.ladder (due table s w c).given.state (next m (fed c))))
 

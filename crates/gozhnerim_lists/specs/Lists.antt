@@ -7,12 +7,14 @@ use Rattle.std.specs.Prelude.{◌≡◌, List, [], ◌∷◌, map, ℕ, ◌+◌,
 use Rattle.std.proofs.Math.Option.{Option, some, none}
 use Rattle.std.specs.Float.{nan}
 use Rattle.order.specs.Order.{below, fraction_of, top_rung}
+use Rattle.floats.specs.Numbers.{function_number}
 use Rattle.floats.specs.declared.Function.{Function}
 use Rattle.floats.specs.declared.Function.TheVariants.{D, «V»}
 use Rattle.recurrence.specs.Recurrence.{step}
 use Rattle.derivatives.specs.Derivatives.{derivative}
 use Rattle.slots.specs.Slots.{filled}
-use Rattle.ladder_machine.specs.Machine.{Request, Inputs, request, Machine, empty, next, after}
+use Rattle.ladder_machine.specs.declared.Request.{Request}
+use Rattle.ladder_machine.specs.Machine.{Inputs, request, Machine, empty, next, after}
 use Rattle.ladder_machine.specs.Machine.{Verdict, refuses, repeats, climbs, starts_over, effect, verdict, verdicts}
 use Rattle.ladder_machine.specs.Held.{machine_of}
 use Rattle.ladder_lists.specs.Demand3.{Call, ask, fed, Number, Numbers, Long, tabled_value, tabled_derivative}
@@ -62,14 +64,10 @@ begun_with s = begun_by (function_in s.function) s
 
 -- ---- what is due to a call, where `held` is the state given and the machine has spoken
 
-unfoldable pub number_in : Function → ℕ
-number_in D = 1
-number_in «V» = 2
-
 -- the state handed out for a request: every field
 abbrev pub state_in_c : Request → Float → Float → ℕ → Float → Float → GozhnerimLadder
 state_in_c q x f n low high = record {
-  function = number_in q.function;
+  function = function_number q.function;
   below_zero = cond (below q.v) 1 0;
   n = n;
   reserved = 0 ∷ 0 ∷ 0 ∷ [];

@@ -1,6 +1,6 @@
 -- A ladder's request in C (01, "The ladder"; the C interface): the reply, and both tables as they are left.
 use Rattle.std.specs.Prelude.{List, Float}
-use Rattle.ladder_machine.specs.Machine.{Request}
+use Rattle.ladder_machine.specs.declared.Request.{Request}
 use Rattle.ladder.specs.Ladder.{requested}
 use Rattle.gozhnerim_structs.specs.declared.GozhnerimLadder.{GozhnerimLadder}
 use Rattle.gozhnerim_structs.specs.declared.GozhnerimReply.{GozhnerimReply}

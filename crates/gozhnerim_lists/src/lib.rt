@@ -11,6 +11,7 @@ pub use requests::request_in_c;
 
 // The theorem about every list of ladder requests over the C interface. The statement is specs/Lists.antt, the proof
 // proofs/Demand3InC.antt.
+#[tactic(auto, using(crate::proofs::Demand3InC::demand3_in_c))]
 pub fn demand_three_in_c()
     ensures { Demand3InC }
 {}

@@ -12,7 +12,7 @@ use Rattle.gozhnerim_structs.specs.declared.GozhnerimAnswer.{GozhnerimAnswer}
 use Rattle.gozhnerim_structs.specs.declared.GozhnerimLadder.{GozhnerimLadder}
 use Rattle.gozhnerim_structs.specs.declared.GozhnerimReply.{GozhnerimReply}
 use Rattle.gozhnerim_structs.specs.Answers.{pair_or_nan, answer_of}
-use Rattle.gozhnerim_structs.specs.Ladders.{function_of, ladder_by, ladder_in, number_of, ladder_out}
+use Rattle.gozhnerim_structs.specs.Ladders.{function_of, ladder_by, ladder_in, ladder_out}
 use Rattle.gozhnerim_structs.specs.Ladders.{handed_back, count_of, reply_of}
 
 -- a function's values over a list of arguments and values
@@ -91,5 +91,5 @@ module _ (held : GozhnerimLadder) (n count : ℕ) (reserved : List ℕ) (x f low
 
   pub examples_hold : Holds ladder_in comes_in × Holds ladder_out goes_out × Holds (reply_of held) replies
       × Holds answered answers
-  unfolding pair_or_nan answer_of function_of ladder_by ladder_in number_of ladder_out handed_back count_of reply_of
+  unfolding pair_or_nan answer_of function_of ladder_by ladder_in ladder_out handed_back count_of reply_of
   examples_hold = (refl, refl, refl, refl)

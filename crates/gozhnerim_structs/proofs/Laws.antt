@@ -1,22 +1,19 @@
 -- A ladder that goes out to C and comes in again.
-use Rattle.std.proofs.Common.{◌≡◌, refl, sym, Bool, true, false, not, cond, ℕ, eqb, ne_eqb, ◌+◌}
+use Rattle.std.proofs.Common.{◌≡◌, refl, sym, Bool, true, false, not, cond, ℕ, Float, eqb, ne_eqb}
 use Rattle.std.proofs.Math.Option.{some, none}
-use denote.Enum.Declared.{tag_of}
-use mir.Val.{bool_byte}
+use Rattle.std.specs.Float.{nan}
+use Rattle.std.specs.Int.{from_bool}
+use Rattle.floats.proofs.Values.{nan_is}
+use Rattle.answer.proofs.Laws.{answer_laws}
 use Rattle.floats.specs.Numbers.{function_number}
-use Rattle.floats.specs.contracts.Function.{the_type}
 use Rattle.floats.specs.declared.Function.{Function}
 use Rattle.floats.specs.declared.Function.TheVariants.{D, «V»}
 use Rattle.ladder_states.specs.declared.Ladder.{Ladder}
 use Rattle.gozhnerim_structs.specs.declared.GozhnerimLadder.{GozhnerimLadder}
-use Rattle.gozhnerim_structs.specs.Ladders.{function_of, ladder_by, ladder_in, number_of, ladder_out, handed_back}
+use Rattle.gozhnerim_structs.specs.Answers.{pair_or_nan}
+use Rattle.gozhnerim_structs.specs.Ladders.{function_of, ladder_by, ladder_in, ladder_out, handed_back}
 
 -- ---- a function by its number
-
-pub number_told : (function : Function) → tag_of the_type function + 1 ≡ number_of function
-unfolding number_of
-number_told D = refl
-number_told «V» = refl
 
 pub by_number : (function : Function) (n : ℕ) → function_number function ≡ n → function_of n ≡ some function
 unfolding function_of
@@ -28,14 +25,25 @@ unfolding function_of
 by_no_number n a b = rw (ne_eqb n 1 a, ne_eqb n 2 b)
 
 -- a `bool` as a number
-pub side_told : (b : Bool) → bool_byte b ≡ cond b 1 0
+pub side_told : (b : Bool) → from_bool b ≡ cond b 1 0
 side_told true = refl
 side_told false = refl
 
+-- what the conversion of an answer takes
+pub pair_there : (p : Float × Float) → pair_or_nan (some p) ≡ p
+unfolding pair_or_nan
+pair_there p = refl
+
+pub no_pair_there : pair_or_nan none ≡ (nan, nan)
+unfolding pair_or_nan
+no_pair_there = refl
+
+pub ruleset flat_laws = (answer_laws, nan_is, pair_there, no_pair_there)
+
 -- ---- out, and in again
 
-by_function : (function : Function) → function_of (number_of function) ≡ some function
-unfolding function_of number_of
+by_function : (function : Function) → function_of (function_number function) ≡ some function
+unfolding function_of
 by_function D = refl
 by_function «V» = refl
 

@@ -1,6 +1,7 @@
 -- A ladder's state and reply in C (01, "The ladder"; the C interface).
 use Rattle.std.specs.Prelude.{[], ◌∷◌, ℕ, not, cond, eqb}
 use Rattle.std.proofs.Math.Option.{Option, some, none}
+use Rattle.floats.specs.Numbers.{function_number}
 use Rattle.floats.specs.declared.Function.{Function}
 use Rattle.floats.specs.declared.Function.TheVariants.{D, «V»}
 use Rattle.order.specs.declared.Sequence.{Sequence}
@@ -29,15 +30,11 @@ ladder_in s = ladder_by (function_of s.function) s
 
 -- ---- the state that an accepted request hands back
 
-unfoldable pub number_of : Function → ℕ
-number_of D = 1
-number_of «V» = 2
-
 unfoldable pub ladder_out : Ladder → GozhnerimLadder
 ladder_out s =
     let r = s.held.sequence in
     record {
-      function = number_of r.function;
+      function = function_number r.function;
       below_zero = cond r.below 1 0;
       n = s.held.n;
       reserved = 0 ∷ 0 ∷ 0 ∷ [];

@@ -10,6 +10,7 @@ use answer::{Answer, Pair};
 impl From<Answer> for GozhnerimAnswer {
     ghost from_gives = { λ a answer. answer ≡ answer_of (refusal_of a) (pair_of a) };
 
+    #[tactic(auto, using(crate::proofs::Laws::flat_laws), unfolding(crate::specs::Answers::answer_of))]
     fn from(a: Answer) -> GozhnerimAnswer {
         match a {
             Ok(Pair { value, derivative }) => GozhnerimAnswer {

@@ -35,6 +35,7 @@ impl From<GozhnerimLadder> for Ladder {
 impl From<Ladder> for GozhnerimLadder {
     ghost from_gives = { λ ladder state. state ≡ ladder_out ladder };
 
+    #[tactic(auto, using(crate::proofs::Laws::side_told), unfolding(crate::specs::Ladders::ladder_out))]
     fn from(ladder: Ladder) -> GozhnerimLadder {
         let sequence = ladder.held.sequence;
         GozhnerimLadder {

@@ -1,20 +1,23 @@
 -- What the C interface tells: an order by the outcomes of its two tests, a reply by what the machine says.
 use Rattle.std.proofs.Common.{◌≡◌, refl, sym, ap, ◌∙◌, List, Bool, true, false, cond, ◌||◌, true≢false, ℕ, ◌+◌, ◌-◌}
-use Rattle.std.proofs.Common.{◌*◌, ◌≤◌, le_of_eq, arith, ltb-true, ltb-false, ne_eqb, lt-ltb, le-ltb, T, ltb, length}
-use Rattle.std.proofs.Common.{replicate, Float}
+use Rattle.std.proofs.Common.{◌≤◌, arith, ltb-true, ltb-false, ne_eqb, lt-ltb, le-ltb, T, ltb, length}
+use Rattle.std.proofs.Common.{Float}
+use Rattle.std.proofs.lemmas.Bool.Decides.{nat_tests}
+use Rattle.answer.proofs.Laws.{numbered, refusal_numbers}
 use Rattle.std.specs.Float.{binary64}
 use Rattle.std.specs.Float.Ieee.{is_nan, fits, of_bits}
-use Rattle.std.proofs.Math.ListN.{length-replicate}
 use Rattle.floats.specs.Operations.{f0}
 use Rattle.order.specs.Order.{too_large, top_rung, num}
 use Rattle.order.proofs.Facts.{split_facts}
 use Rattle.table_refusals.specs.Refusals.{refusal_by}
 use Rattle.table_refusals.proofs.Laws.{refused_order_law, refused_size, not_refused as accepted_law, of_numbers}
 use Rattle.tables.proofs.Calls.{refusal_short}
-use Rattle.ladder_machine.specs.Machine.{Request, request, too_short, refusal, empty, Verdict, refuses, repeats, climbs, starts_over}
+use Rattle.ladder_machine.specs.declared.Request.{Request}
+use Rattle.ladder_machine.specs.Machine.{request, too_short, refusal, empty, Verdict, refuses, repeats, climbs, starts_over}
 use Rattle.ladder_machine.proofs.Laws.{accepted}
 use Rattle.ladder_machine.proofs.Tests.{short_values, by_derivatives, refusal_by_law}
-use Rattle.ladder_lists.specs.Demand3.{ask, Number, Long}
+use Rattle.ladder_lists.specs.Demand3.{ask, Number}
+use Rattle.ladder_lists.proofs.OneLadder.{table, long}
 use Rattle.gozhnerim_structs.specs.declared.GozhnerimLadder.{GozhnerimLadder}
 use Rattle.gozhnerim_told.specs.declared.GozhnerimOrder.{GozhnerimOrder}
 use Rattle.gozhnerim_told.specs.Orders.{order_refusal, refused_order, accepted_order, order_in}
@@ -40,6 +43,9 @@ by_order v = go (is_nan v) (too_large v) refl refl
     go true b ea eb = rw ea (sym (refused_order_law v f0 false ea))
     go false true ea eb = rw (ea, eb) (sym (refused_size v f0 false ea zero_number eb))
     go false false ea eb = rw (ea, eb) (sym (accepted_law v f0 false ea zero_number eb refl))
+
+-- what `order_of` takes
+pub ruleset order_laws = (nat_tests, refusal_numbers, numbered, by_order)
 
 -- what it is refused for; `short` says what is too short for an order that is taken
 module _ (v x : Float) (short : GozhnerimOrder → Bool) (number : is_nan x ≡ false) where
@@ -93,12 +99,6 @@ both_tests n values derivatives true e = short_values n values derivatives (ltb-
 both_tests n values derivatives false e = by_derivatives n values derivatives (ltb-false values (n + 1) e)
 
 -- ---- what a request gives, by what the machine says
-
-abbrev table : Request → List Float
-table q = replicate (2 * num q.v) f0
-
-long : Long table
-long q number small = le_of_eq (sym (length-replicate (2 * num q.v) f0))
 
 module _ (held : GozhnerimLadder) (q : Request) (number : Number (request q)) (l d : List Float) where
   right : StateRightInC table held q l d

@@ -5,7 +5,8 @@ use Rattle.std.specs.Float.{binary64, nan}
 use Rattle.std.specs.Float.Ieee.{is_nan, fits}
 use Rattle.tables.specs.Tables.{refusal}
 use Rattle.order.specs.Order.{num}
-use Rattle.ladder_machine.specs.Machine.{Request, request, empty, Verdict, refuses, repeats, climbs, starts_over}
+use Rattle.ladder_machine.specs.declared.Request.{Request}
+use Rattle.ladder_machine.specs.Machine.{request, empty, Verdict, refuses, repeats, climbs, starts_over}
 use Rattle.ladder_lists.specs.Demand3.{ask, Number}
 use Rattle.gozhnerim_structs.specs.declared.GozhnerimLadder.{GozhnerimLadder}
 use Rattle.gozhnerim_lists.specs.Requests.{requested_in_c}

@@ -28,10 +28,12 @@ pub struct GozhnerimOrder {
 }
 
 // The theorems about them. The statements are in specs/Told.antt, the proofs in proofs/Told.antt.
+#[tactic(auto, using(crate::proofs::Told::orders_told))]
 pub fn orders_told()
     ensures { OrdersTold }
 {}
 
+#[tactic(auto, using(crate::proofs::Told::cases_told))]
 pub fn cases_told()
     ensures { CasesTold }
 {}

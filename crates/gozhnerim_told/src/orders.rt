@@ -11,6 +11,7 @@ use order::Order;
 impl From<Refusal> for GozhnerimOrder {
     ghost from_gives = { λ refusal order. order ≡ refused_order (number refusal) };
 
+    #[tactic(auto, using(floats::proofs::Values::nan_is), unfolding(crate::specs::Orders::refused_order))]
     fn from(refusal: Refusal) -> GozhnerimOrder {
         GozhnerimOrder {
             refusal: u32::from(refusal),
@@ -25,6 +26,7 @@ impl From<Refusal> for GozhnerimOrder {
     }
 }
 
+#[tactic(auto, using(gozhnerim_structs::proofs::Laws::side_told), unfolding(crate::specs::Orders::accepted_order))]
 fn accepted(v: f64) -> GozhnerimOrder
     ensures { result ≡ accepted_order v }
 {
@@ -44,6 +46,7 @@ fn accepted(v: f64) -> GozhnerimOrder
 }
 
 // What a request for the order v needs, or the number that refuses it for every argument that is a number.
+#[tactic(auto, using(crate::proofs::Told::order_laws), unfolding(crate::specs::Orders::order_in))]
 pub fn order_of(v: f64) -> GozhnerimOrder
     ensures { result ≡ order_in v }
 {

@@ -7,9 +7,10 @@ use Rattle.order.specs.Order.{top_rung}
 use Rattle.slots.specs.Slots.{filled}
 use Rattle.slots.proofs.Filled.{length_filled}
 use Rattle.tables.specs.Tables.{value_of, derivative_of}
-use Rattle.ladder_machine.specs.Machine.{Request, asked, refusal, Verdict, refuses, repeats, climbs, starts_over, refused_by, Effect, stays, goes_on, starts_at, effect, verdict}
+use Rattle.ladder_machine.specs.declared.Request.{Request}
+use Rattle.ladder_machine.specs.Machine.{asked, refusal, Verdict, refuses, repeats, climbs, starts_over, refused_by, Effect, stays, goes_on, starts_at, effect, verdict}
 use Rattle.ladder_machine.specs.Held.{machine_of}
-use Rattle.ladder_machine.proofs.Laws.{not_empty, Means, verdict_means, climb_parts, repeats_count, climbs_count, starts_count}
+use Rattle.ladder_machine.proofs.Laws.{not_empty, Means, verdict_means, climb_parts, written_repeats, written_climbs, written_starts_over}
 use Rattle.ladder_states.specs.declared.Ladder.{Ladder}
 use Rattle.ladder_states.specs.States.{held_in}
 use Rattle.ladder.specs.Ladder.{state_for, value_from, derivative_from, climbed_to, Given, pair_then, given_on, answered, outcome, values_then, derivatives_then, outcome_by, requested}
@@ -60,7 +61,7 @@ module _ (s : Ladder) (q : Request) (l d : List Float) (w : Verdict) where
         values_go_on s q l s.held.n s.held.n,
         derivatives_go_on s q d s.held.n s.held.n,
         sub_self,
-        repeats_count s.held.n,
+        written_repeats s.held.n,
         eg,
       )
 
@@ -75,7 +76,7 @@ module _ (s : Ladder) (q : Request) (l d : List Float) (w : Verdict) where
         state_goes_on s q m n,
         values_go_on s q l m n,
         derivatives_go_on s q d m n,
-        climbs_count m n,
+        written_climbs m n,
         eg,
         es,
         el,
@@ -88,7 +89,7 @@ module _ (s : Ladder) (q : Request) (l d : List Float) (w : Verdict) where
       → g ≡ answered (n + 1) s1 → outcome g l1 d1 ≡ outcome_by w s q l d
   unfolding effect given_on answered refused_by pair_then
   started_outcome n s1 g l1 d1 e en es el ed eg =
-      rw (e, outcome_by_law s q l d (starts_over n), state_starts s q n, values_start s q l n, derivatives_start s q d n, starts_count n, eg, es, el, ed, en)
+      rw (e, outcome_by_law s q l d (starts_over n), state_starts s q n, values_start s q l n, derivatives_start s q d n, written_starts_over n, eg, es, el, ed, en)
 
 -- the n of each state that is handed back
 pub climbed_n : (s : Ladder) (n : ℕ) → (climbed_to s n).held.n ≡ n

@@ -1,6 +1,7 @@
 -- A refused request hands back the state that it was given.
 use Rattle.std.proofs.Common.{◌≡◌, false, true≢false, List, eqb, length, Float}
-use Rattle.ladder_machine.specs.Machine.{Request, asked, Verdict, refuses, repeats, climbs, starts_over, refused_by, effect, verdict}
+use Rattle.ladder_machine.specs.declared.Request.{Request}
+use Rattle.ladder_machine.specs.Machine.{asked, Verdict, refuses, repeats, climbs, starts_over, refused_by, effect, verdict}
 use Rattle.ladder_machine.specs.Held.{machine_of}
 use Rattle.ladder_states.specs.declared.Ladder.{Ladder}
 use Rattle.ladder_states.specs.States.{held_in}

@@ -1,9 +1,10 @@
 -- What a start-over leaves and holds, from what its parts find and fill.
-use Rattle.std.proofs.Common.{◌≡◌, sym, ap, ◌∙◌, List, Bool, true, ℕ, ◌+◌, ◌-◌, ◌≤◌, ◌<◌, arith, T, length, Float}
+use Rattle.std.proofs.Common.{◌≡◌, sym, ap, ◌∙◌, List, true, ℕ, ◌+◌, ◌-◌, ◌≤◌, ◌<◌, arith, T, length, Float}
 use Rattle.std.specs.Float.{binary64}
 use Rattle.std.specs.Float.Ieee.{fits}
 use Rattle.order.specs.Order.{below, shifted, fraction_of, top_rung, num}
 use Rattle.order.specs.Facts.{Split}
+use Rattle.order.specs.declared.Sequence.{Sequence}
 use Rattle.order.proofs.Facts.{split_facts}
 use Rattle.slots.specs.Slots.{filled, slot}
 use Rattle.ladder_columns.specs.Columns.{room_for, value_column, derivative_column}
@@ -11,8 +12,9 @@ use Rattle.ladder_columns.proofs.Room.{room_for_law}
 use Rattle.value_column.proofs.Branches.{slot_filled}
 use Rattle.ladder_columns.proofs.Columns.{value_column_with_room, derivative_column_with_room}
 use Rattle.tables.specs.Tables.{sequence_of, value_of, derivative_of}
-use Rattle.tables.proofs.Calls.{value_is, derivative_is}
-use Rattle.ladder_machine.specs.Machine.{Request, refusal}
+use Rattle.tables.proofs.Calls.{value_of_is, derivative_of_is}
+use Rattle.ladder_machine.specs.declared.Request.{Request}
+use Rattle.ladder_machine.specs.Machine.{refusal}
 use Rattle.ladder_machine.proofs.Laws.{accepted}
 use Rattle.ladder_states.specs.States.{state_of}
 use Rattle.ladder.specs.Ladder.{state_for}
@@ -31,26 +33,25 @@ module _ (q : Request) (l d : List Float) (fit : T (fits binary64 q.v)) (ok : re
   has_room : room_for (top_rung q.v) (length l) (length d) ≡ true
   has_room = let r = order_room q (length l) (length d) fit ok in room_for_law (top_rung q.v) (length l) (length d) r.0 r.1 r.2 r.3
 
-  -- s, u, f and n are what the split gives, l1 and d1 what the fill leaves
-  module _ (s : Bool) (u f : Float) (n : ℕ) (l1 d1 : List Float) (es : s ≡ below q.v) (eu : u ≡ shifted q.v) (ef : f ≡ fraction_of q.v)
-      (en : n ≡ top_rung q.v) (el : l1 ≡ value_column (record { function = q.function; below = s; x = q.x; f = f }) u n l (length d))
-      (ed : d1 ≡ derivative_column (record { function = q.function; below = s; x = q.x; f = f }) u n (length l) d) where
+  -- r, u and n are what the split gives, l1 and d1 what the fill leaves
+  module _ (r : Sequence) (u : Float) (n : ℕ) (l1 d1 : List Float) (er : r ≡ sequence_of q.function q.v q.x) (eu : u ≡ shifted q.v)
+      (en : n ≡ top_rung q.v) (el : l1 ≡ value_column r u n l (length d)) (ed : d1 ≡ derivative_column r u n (length l) d) where
     pub started_values : l1 ≡ filled (value_of q.function q.v q.x) 0 0 (top_rung q.v + 1) l
     started_values =
         el
-        ∙ rw (es, eu, ef, en) (value_column_with_room (sequence_of q.function q.v q.x) (shifted q.v) (top_rung q.v) l (length d) has_room)
-        ∙ ap (λ (g : ℕ → Float). filled g 0 0 (top_rung q.v + 1) l) (sym (value_is q.function q.v q.x))
+        ∙ rw (er, eu, en) (value_column_with_room (sequence_of q.function q.v q.x) (shifted q.v) (top_rung q.v) l (length d) has_room)
+        ∙ ap (λ (g : ℕ → Float). filled g 0 0 (top_rung q.v + 1) l) (sym (value_of_is q.function q.v q.x))
 
     pub started_derivatives : d1 ≡ filled (derivative_of q.function q.v q.x) 0 0 (top_rung q.v) d
     started_derivatives =
         ed
-        ∙ rw (es, eu, ef, en) (derivative_column_with_room (sequence_of q.function q.v q.x) (shifted q.v) (top_rung q.v) d (length l) has_room)
-        ∙ ap (λ (g : ℕ → Float). filled g 0 0 (top_rung q.v) d) (sym (derivative_is q.function q.v q.x))
+        ∙ rw (er, eu, en) (derivative_column_with_room (sequence_of q.function q.v q.x) (shifted q.v) (top_rung q.v) d (length l) has_room)
+        ∙ ap (λ (g : ℕ → Float). filled g 0 0 (top_rung q.v) d) (sym (derivative_of_is q.function q.v q.x))
 
-    pub started_state : state_of (record { function = q.function; below = s; x = q.x; f = f }) n (slot l1 (n - 1)) (slot l1 n) ≡ state_for q (top_rung q.v)
+    pub started_state : state_of r n (slot l1 (n - 1)) (slot l1 n) ≡ state_for q (top_rung q.v)
     started_state =
         let v = value_of q.function q.v q.x in
-        let r = order_room q (length l) (length d) fit ok in
-        let low : slot l1 (top_rung q.v - 1) ≡ v (top_rung q.v - 1) = rw started_values (slot_filled v (top_rung q.v + 1) l (top_rung q.v - 1) (omega arith) (omega (arith, r))) in
-        let high : slot l1 (top_rung q.v) ≡ v (top_rung q.v) = rw started_values (slot_filled v (top_rung q.v + 1) l (top_rung q.v) (omega arith) (omega (arith, r))) in
-        rw (state_for_is q (top_rung q.v), en, low, high, es, ef)
+        let room = order_room q (length l) (length d) fit ok in
+        let low : slot l1 (top_rung q.v - 1) ≡ v (top_rung q.v - 1) = rw started_values (slot_filled v (top_rung q.v + 1) l (top_rung q.v - 1) (omega arith) (omega (arith, room))) in
+        let high : slot l1 (top_rung q.v) ≡ v (top_rung q.v) = rw started_values (slot_filled v (top_rung q.v + 1) l (top_rung q.v) (omega arith) (omega (arith, room))) in
+        rw (state_for_is q (top_rung q.v), er, en, low, high)

@@ -7,7 +7,8 @@ use Rattle.slots.specs.Slots.{filled}
 use Rattle.answer.specs.Answer.{refusal_of}
 use Rattle.answer.specs.declared.Refusal.{Refusal}
 use Rattle.tables.specs.Tables.{sequence_of, value_of, derivative_of}
-use Rattle.ladder_machine.specs.Machine.{Request, asked, Verdict, refused_by, written, Effect, stays, goes_on, starts_at}
+use Rattle.ladder_machine.specs.declared.Request.{Request}
+use Rattle.ladder_machine.specs.Machine.{asked, Verdict, refused_by, written, Effect, stays, goes_on, starts_at}
 use Rattle.ladder_machine.specs.Machine.{effect, verdict}
 use Rattle.ladder_machine.specs.Held.{machine_of}
 use Rattle.ladder_climb.specs.Climb.{carried_value, carried_derivative}

@@ -4,7 +4,7 @@ ghost use Rattle.std.specs.Prelude.{◌≡◌, true, ◌+◌, ◌-◌, ◌≤◌
 ghost use Rattle.order.specs.Order.{top_rung};
 ghost use Rattle.slots.specs.Slots.{filled};
 ghost use Rattle.tables.specs.Tables.{value_of, derivative_of};
-ghost use Rattle.ladder_machine.specs.Machine.{asks, asked, refusal, verdict};
+ghost use Rattle.ladder_machine.specs.Machine.{asked, refusal, verdict};
 ghost use Rattle.ladder_machine.specs.Held.{machine_of, verdict_of};
 ghost use Rattle.ladder_climb.specs.Climb.{room_above};
 ghost use Rattle.ladder_states.specs.States.{held_in};
@@ -13,8 +13,7 @@ ghost use Rattle.ladder.specs.Ladder.{answered, outcome, outcome_by};
 
 use crate::{Answered, Reply};
 use answer::Pair;
-use floats::Function;
-use ladder_machine::{Case, Held};
+use ladder_machine::{Case, Held, Request};
 use ladder_states::Ladder;
 use order::{Adjacent, Rung};
 
@@ -49,27 +48,22 @@ fn climb(values: &mut [f64], derivatives: &mut [f64], state: Ladder, top: Rung) 
 }
 
 // Stores all rungs of a request, and gives the state that holds it.
-fn start_over(
-    values: &mut [f64],
-    derivatives: &mut [f64],
-    function: Function,
-    v: f64,
-    x: f64,
-) -> Ladder
-    requires { refusal (asks function v x) (length values.old) (length derivatives.old) ≡ 0 }
-    ensures state { result ≡ state_for (asks function v x) (top_rung v) }
-    ensures values { values.new ≡ filled (value_of function v x) 0 0 (top_rung v + 1) values.old }
-    ensures derivatives { derivatives.new ≡ filled (derivative_of function v x) 0 0 (top_rung v) derivatives.old }
+fn start_over(values: &mut [f64], derivatives: &mut [f64], request: Request) -> Ladder
+    requires { refusal request (length values.old) (length derivatives.old) ≡ 0 }
+    ensures state { result ≡ state_for request (top_rung request.v) }
+    ensures values { values.new
+        ≡ filled (value_of request.function request.v request.x) 0 0 (top_rung request.v + 1) values.old }
+    ensures derivatives { derivatives.new
+        ≡ filled (derivative_of request.function request.v request.x) 0 0 (top_rung request.v) derivatives.old }
 {
-    let split = order::split(v);
-    let sequence = split.sequence(function, x);
-    ladder_columns::fill_columns(values, derivatives, sequence, split.u, split.n);
-    let top = split.n as usize;
+    let rungs = order::split(request.v).rungs(request.function, request.x);
+    ladder_columns::fill_columns(values, derivatives, rungs);
+    let top = rungs.n as usize;
     let two = Adjacent {
         low: values[top - 1],
         high: values[top],
     };
-    Ladder::new(sequence, split.n, two)
+    Ladder::new(rungs.sequence, rungs.n, two)
 }
 
 // Acts on the case of a request.
@@ -78,18 +72,17 @@ pub(crate) fn act(
     derivatives: &mut [f64],
     state: Ladder,
     case: Case,
-    function: Function,
-    v: f64,
-    x: f64,
+    request: Request,
 ) -> Reply
     requires { verdict_of (Ok case)
-        ≡ verdict (machine_of (held_in state)) (asked (asks function v x) (length values.old) (length derivatives.old)) }
+        ≡ verdict (machine_of (held_in state))
+        (asked request (length values.old) (length derivatives.old)) }
     ensures { outcome (given_by result) values.new derivatives.new
-        ≡ outcome_by (verdict_of (Ok case)) state (asks function v x) values.old derivatives.old }
+        ≡ outcome_by (verdict_of (Ok case)) state request values.old derivatives.old }
 {
     match case {
         Case::Repeat(_) => answer(state, 0),
         Case::Climb { from, to } => answer(climb(values, derivatives, state, to), to - from),
-        Case::StartOver(n) => answer(start_over(values, derivatives, function, v, x), n + 1),
+        Case::StartOver(n) => answer(start_over(values, derivatives, request), n + 1),
     }
 }

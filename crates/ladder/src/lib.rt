@@ -6,12 +6,11 @@
 mod actions;
 
 ghost use Rattle.std.specs.Prelude.{◌≡◌};
-ghost use Rattle.ladder_machine.specs.Machine.{asks};
 ghost use Rattle.ladder.specs.Ladder.{given_by, outcome, requested};
 
 use actions::act;
 use answer::{Pair, Refusal};
-use floats::Function;
+use ladder_machine::Request;
 use ladder_states::Ladder;
 use order::Rung;
 
@@ -29,21 +28,19 @@ pub struct Reply {
     pub answer: Result<Answered, Refusal>,
 }
 
-// D or V at order v and argument x: the request is judged, and then acted on. Function, order and argument stand apart,
-// as D_v(x) reads, and so do the two tables, as they are lent: the contract speaks of each before and after.
+// D or V at the request's order and argument: the request is judged, and then acted on. The two tables stand apart, as
+// they are lent: the contract speaks of each before and after.
 pub fn request(
     state: Ladder,
-    function: Function,
-    v: f64,
-    x: f64,
+    request: Request,
     values: &mut [f64],
     derivatives: &mut [f64],
 ) -> Reply
     ensures { outcome (given_by result) values.new derivatives.new
-        ≡ requested state (asks function v x) values.old derivatives.old }
+        ≡ requested state request values.old derivatives.old }
 {
-    match ladder_machine::judge(state.held, function, v, x, values.len(), derivatives.len()) {
-        Ok(case) => act(values, derivatives, state, case, function, v, x),
+    match ladder_machine::judge(state.held, request, values.len(), derivatives.len()) {
+        Ok(case) => act(values, derivatives, state, case, request),
         Err(refusal) => Reply {
             state,
             answer: Err(refusal),

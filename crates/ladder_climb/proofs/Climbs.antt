@@ -1,6 +1,8 @@
--- What a climb carries on, a turn of it (the next rung, and the two slots that it fills), and what it leaves with room and without it.
+-- What a climb carries on, a turn of it (the next rung, and the two slots that it fills), and what it leaves.
 use Rattle.std.proofs.Common.{◌≡◌, sym, ap, ◌∙◌, List, true, false, ℕ, suc, ◌+◌, ◌-◌, ◌≤◌, ◌<◌, arith, length, set}
 use Rattle.std.specs.Float.Ieee.{Float}
+use Rattle.std.proofs.Math.Nat.{sub_self}
+use Rattle.ladder_climb.proofs.Room.{room_facts}
 use Rattle.recurrence.specs.Recurrence.{step}
 use Rattle.recurrence.specs.ThreeTerm.{continued}
 use Rattle.recurrence.proofs.ThreeTerm.{continued_next}
@@ -78,33 +80,8 @@ module _ (r : Sequence) (n : ℕ) (low high : Float) where
         ∙ filled_more slope n n (k - n) l
         ∙ ap (λ (i : ℕ). filled slope n n i l) m)
 
-  -- one turn: the two rungs that are held after it, and the two slots that it fills
-  pub next : (k : ℕ) (a b c : Float) → 1 ≤ n → n ≤ k → a ≡ carried_value r n low high (k - 1) → b ≡ carried_value r n low high k
-      → c ≡ step r.function r.below r.x r.f (k + 1) a b
-      → (b ≡ carried_value r n low high (k + 1 - 1))
-      × (c ≡ carried_value r n low high (k + 1))
-      × ((t l : List Float) → t ≡ filled (carried_value r n low high) (n + 1) (n + 1) (k - n) l
-      → set t (k + 1) c ≡ filled (carried_value r n low high) (n + 1) (n + 1) (k + 1 - n) l)
-      × ((d : Float) (t l : List Float) → d ≡ derivative r.function r.below r.x r.f k b c
-      → t ≡ filled (carried_derivative r n low high) n n (k - n) l
-      → set t k d ≡ filled (carried_derivative r n low high) n n (k + 1 - n) l)
-  next k a b c some from ea eb ec = (
-    next_low k a b c some from ea eb ec,
-    next_high k a b c some from ea eb ec,
-    next_value k a b c some from ea eb ec,
-    next_derivative k a b c some from ea eb ec,
-  )
-
   -- the climb with room, and without it
   module _ (top : ℕ) (l d : List Float) where
-    pub climb_left : room_above n top (length l) (length d) ≡ false
-        → ((low, high) ≡ top_values r n low high top (length l) (length d))
-        × ((l ≡ climbed_values r n low high top l (length d)) × (d ≡ climbed_derivatives r n low high top (length l) d))
-    climb_left room = (
-      rw (top_values_is r n low high top (length l) (length d), room),
-      (rw (climbed_values_is r n low high top l (length d), room), rw (climbed_derivatives_is r n low high top (length l) d, room)),
-    )
-
     pub climb_done : room_above n top (length l) (length d) ≡ true
         → (top_values r n low high top (length l) (length d) ≡ (carried_value r n low high (top - 1), carried_value r n low high top))
         × (climbed_values r n low high top l (length d) ≡ filled (carried_value r n low high) (n + 1) (n + 1) (top - n) l)
@@ -114,3 +91,19 @@ module _ (r : Sequence) (n : ℕ) (low high : Float) where
       rw (climbed_values_is r n low high top l (length d), room),
       rw (climbed_derivatives_is r n low high top (length l) d, room),
     )
+
+    pub climb_left : room_above n top (length l) (length d) ≡ false
+        → ((low, high) ≡ top_values r n low high top (length l) (length d))
+        × ((l ≡ climbed_values r n low high top l (length d)) × (d ≡ climbed_derivatives r n low high top (length l) d))
+    climb_left room = (
+      rw (top_values_is r n low high top (length l) (length d), room),
+      (rw (climbed_values_is r n low high top l (length d), room), rw (climbed_derivatives_is r n low high top (length l) d, room)),
+    )
+
+-- none filled yet
+pub none_filled : (value : ℕ → Float) (from at n : ℕ) (l : List Float) → filled value from at (n - n) l ≡ l
+unfolding filled
+none_filled value from at n l = rw sub_self
+
+-- what a climb is, with room and without it, for `climb`
+pub ruleset climbs = (room_facts, none_filled, carried_low, carried_high, next_low, next_high, next_value, next_derivative, top_values_is, climbed_values_is, climbed_derivatives_is)

@@ -9,6 +9,7 @@ ghost use Rattle.ladder_climb.specs.Climb.{room_above, top_values, climbed_value
 use order::{Adjacent, Rung, Sequence};
 
 // Whether tables of these lengths hold the rungs above n up to `top`.
+#[tactic(auto, using(std::proofs::lemmas::Bool::Decides::nat_tests), unfolding(crate::specs::Climb::room_above))]
 fn has_room(n: Rung, top: Rung, values: usize, derivatives: usize) -> bool
     ensures { result ≡ room_above n top values derivatives }
 {
@@ -19,6 +20,7 @@ fn has_room(n: Rung, top: Rung, values: usize, derivatives: usize) -> bool
 // Stores values n + 1 to `top` and derivatives n to top - 1, carried on from the values of rungs n - 1 and n, and gives
 // the values of rungs top - 1 and `top`. No slot is read. Where a table is too short, or not 1 <= n <= top <= 1000,
 // nothing is stored, and the values of rungs n - 1 and n are given.
+#[tactic(auto, using(crate::proofs::Climbs::climbs))]
 pub fn climb(
     values: &mut [f64],
     derivatives: &mut [f64],

@@ -6,8 +6,8 @@ use Rattle.derivatives.specs.Derivatives.{derivative}
 use Rattle.rungs.specs.ColumnValues.{value, derivative_at}
 use Rattle.slots.specs.Slots.{filled, slot}
 use Rattle.value_column.specs.OverSlots.{derivative_over}
-use Rattle.value_column.specs.ValueColumn.{all_values}
 use Rattle.slots.proofs.Filled.{filled_more, filled_same}
+use Rattle.value_column.specs.ValueColumn.{all_values}
 use Rattle.value_column.proofs.Branches.{all_values_law, over_values}
 use Rattle.ladder_columns.specs.Columns.{room_for, value_column, derivative_column}
 use Rattle.ladder_columns.specs.Columns.Open.{value_column_is, derivative_column_is}
@@ -24,10 +24,16 @@ module _ (r : Sequence) where
 -- ---- both columns
 
 module _ (r : Sequence) (u : Float) (n : ℕ) (l : List Float) where
+  -- the derivatives over the values that are there then
+  pub derivatives_law : (d : List Float) → n < length l
+      → filled (derivative_over r (filled (value r u n) 0 0 (n + 1) l)) 0 0 n d ≡ filled (derivative_at r u n) 0 0 n d
+  derivatives_law d room =
+      filled_same (derivative_over r (filled (value r u n) 0 0 (n + 1) l)) (derivative_at r u n) 0 0 0 n d
+      (λ k b. over_values r u n l room (0 + k) (omega arith))
+
   pub derivative_column_law : (l1 d d1 : List Float) → n < length l → l1 ≡ filled (value r u n) 0 0 (n + 1) l
       → d1 ≡ filled (derivative_over r l1) 0 0 n d → d1 ≡ filled (derivative_at r u n) 0 0 n d
-  derivative_column_law l1 d d1 room e1 e2 =
-      e2 ∙ rw e1 (filled_same (derivative_over r (filled (value r u n) 0 0 (n + 1) l)) (derivative_at r u n) 0 0 0 n d (λ k b. over_values r u n l room (0 + k) (omega arith)))
+  derivative_column_law l1 d d1 room e1 e2 = e2 ∙ rw e1 (derivatives_law d room)
 
   -- the columns with room, and without it
   pub columns_filled : (l1 d d1 : List Float) → room_for n (length l) (length d) ≡ true → l1 ≡ all_values r u n l
@@ -52,3 +58,6 @@ module _ (r : Sequence) (u : Float) (n : ℕ) (l : List Float) where
   pub derivative_column_with_room : (values : ℕ) → room_for n values (length l) ≡ true
       → derivative_column r u n values l ≡ filled (derivative_at r u n) 0 0 n l
   derivative_column_with_room values room = rw (derivative_column_is r u n values l, room)
+
+-- what both columns are, with room and without it, for `fill_columns`
+pub ruleset column_laws = (value_column_is, derivative_column_is, columns_room, all_values_law, derivatives_law)

@@ -7,7 +7,7 @@ ghost use Rattle.slots.specs.Slots.{filled};
 ghost use Rattle.value_column.specs.OverSlots.{derivative_over};
 ghost use Rattle.ladder_columns.specs.Columns.{room_for, value_column, derivative_column};
 
-use order::{Adjacent, Rung, Sequence};
+use order::{Adjacent, Rung, Rungs, Sequence};
 use value_column::fill_values;
 
 // Stores n derivatives, over the values of another table.
@@ -17,6 +17,8 @@ fn fill_derivatives_over(values: &[f64], derivatives: &mut [f64], sequence: Sequ
     ensures { derivatives.new
         ≡ filled (derivative_over sequence values.now) 0 0 n derivatives.old }
 {
+    // By index: over `values.array_windows::<2>()` it proves too, but tables take up to 1.05 times as long, and a `zip`
+    // of `iter_mut` with the windows leaves the goal `returns` open, as of the slots only their number is known then.
     for (k, slot) in derivatives[..n as usize].iter_mut().enumerate() {
         let two = Adjacent {
             low: values[k],
@@ -27,6 +29,7 @@ fn fill_derivatives_over(values: &[f64], derivatives: &mut [f64], sequence: Sequ
 }
 
 // Whether columns of these lengths hold rungs 0 to n.
+#[tactic(auto, using(std::proofs::lemmas::Bool::Decides::nat_tests), unfolding(crate::specs::Columns::room_for))]
 fn has_room(n: Rung, values: usize, derivatives: usize) -> bool
     ensures { result ≡ room_for n values derivatives }
 {
@@ -35,19 +38,15 @@ fn has_room(n: Rung, values: usize, derivatives: usize) -> bool
 
 // Stores values 0 to n in one table and derivatives 0 to n - 1 in another. Where a table is too short, or n is not 1 to
 // 1000, nothing is stored.
-pub fn fill_columns(
-    values: &mut [f64],
-    derivatives: &mut [f64],
-    sequence: Sequence,
-    u: f64,
-    n: Rung,
-)
-    ensures values { values.new ≡ value_column sequence u n values.old (length derivatives.old) }
+#[tactic(auto, using(crate::proofs::Columns::column_laws))]
+pub fn fill_columns(values: &mut [f64], derivatives: &mut [f64], rungs: Rungs)
+    ensures values { values.new
+        ≡ value_column rungs.sequence rungs.u rungs.n values.old (length derivatives.old) }
     ensures derivatives { derivatives.new
-        ≡ derivative_column sequence u n (length values.old) derivatives.old }
+        ≡ derivative_column rungs.sequence rungs.u rungs.n (length values.old) derivatives.old }
 {
-    if has_room(n, values.len(), derivatives.len()) {
-        fill_values(values, sequence, u, n);
-        fill_derivatives_over(values, derivatives, sequence, n);
+    if has_room(rungs.n, values.len(), derivatives.len()) {
+        fill_values(values, rungs);
+        fill_derivatives_over(values, derivatives, rungs.sequence, rungs.n);
     }
 }

@@ -11,6 +11,7 @@ ghost use Rattle.ladder.specs.Ladder.{written_of, pair_in};
 use answer::Refusal;
 use floats::Function::D;
 use ladder::{Answered, request};
+use ladder_machine::Request;
 use ladder_states::Ladder;
 
 // What comes of P11: the four answers, and value 4 and derivative 4 as the tables hold them at the end.
@@ -31,10 +32,16 @@ pub fn p11() -> FourRequests
     let mut values = [0.0; 6];
     let mut derivatives = [0.0; 5];
     let ladder = Ladder::empty();
-    let a = request(ladder, D, 2.0, 0.0, &mut values, &mut derivatives);
-    let b = request(a.state, D, 4.0, 0.0, &mut values, &mut derivatives);
-    let c = request(b.state, D, 4.0, 0.0, &mut values, &mut derivatives);
-    let d = request(c.state, D, 2.0, 0.0, &mut values, &mut derivatives);
+    let two = Request {
+        function: D,
+        v: 2.0,
+        x: 0.0,
+    };
+    let four = Request { v: 4.0, ..two };
+    let a = request(ladder, two, &mut values, &mut derivatives);
+    let b = request(a.state, four, &mut values, &mut derivatives);
+    let c = request(b.state, four, &mut values, &mut derivatives);
+    let d = request(c.state, two, &mut values, &mut derivatives);
     FourRequests {
         answers: [a.answer, b.answer, c.answer, d.answer],
         value: values[4],

@@ -7,9 +7,10 @@ use Rattle.order.specs.Order.{top_rung}
 use Rattle.slots.specs.Slots.{filled, slot}
 use Rattle.slots.proofs.Filled.{length_filled, filled_in, filled_out, filled_same}
 use Rattle.tables.specs.Tables.{answer}
-use Rattle.ladder_machine.specs.Machine.{Request, request, refusal, Verdict, refuses, repeats, climbs, starts_over, refused_by, Effect, stays, goes_on, starts_at, effect, held_then}
+use Rattle.ladder_machine.specs.declared.Request.{Request}
+use Rattle.ladder_machine.specs.Machine.{request, refusal, Verdict, refuses, repeats, climbs, starts_over, refused_by, Effect, stays, goes_on, starts_at, effect, held_then}
 use Rattle.ladder_machine.specs.Held.{counts_empty, machine_of}
-use Rattle.ladder_machine.proofs.Laws.{accepted, not_empty, not_counted_empty, Means, verdict_means, climb_parts, Does, effect_means, refuses_count, repeats_count, climbs_count, starts_count, next_by, held_stays, held_goes_on, held_starts, next_same_sequence}
+use Rattle.ladder_machine.proofs.Laws.{accepted, not_empty, not_counted_empty, Means, verdict_means, climb_parts, Does, effect_means, written_refuses, written_repeats, written_climbs, written_starts_over, next_is, held_then_stays, held_then_goes_on, held_then_starts_at, next_same_sequence}
 use Rattle.ladder_climb.specs.Climb.Open.{carried_derivative_is}
 use Rattle.ladder_climb.proofs.Climbs.{carried_low, carried_high, carried_step}
 use Rattle.ladder_states.specs.declared.Ladder.{Ladder}
@@ -50,7 +51,7 @@ module _ (table : Request → List Float) (long : Long table) (s : Ladder) (q : 
 
   refused_is : (number : ℕ) → said ≡ refuses number → requested s q l d ≡ outcome (record { state = s; refusal = number; pair = none; written = none }) l d
   unfolding given_on refused_by effect pair_then
-  refused_is number e = by (refuses number) e ∙ outcome_by_law s q l d (refuses number) ∙ rw (state_stays s q, values_stay s q l, derivatives_stay s q d, refuses_count number)
+  refused_is number e = by (refuses number) e ∙ outcome_by_law s q l d (refuses number) ∙ rw (state_stays s q, values_stay s q l, derivatives_stay s q d, written_refuses number)
 
   repeat_is : (n : ℕ) → said ≡ repeats n → (s.held.n ≡ n) × (top_rung q.v ≡ n)
       × (requested s q l d
@@ -65,7 +66,7 @@ module _ (table : Request → List Float) (long : Long table) (s : Ladder) (q : 
         p.1,
         by (repeats n) e
             ∙ outcome_by_law s q l d (repeats n)
-            ∙ rw (state_goes_on s q n n, here, values_go_on s q l n n, derivatives_go_on s q d n n, sub_self, repeats_count n, pair_from_is s, formula),
+            ∙ rw (state_goes_on s q n n, here, values_go_on s q l n n, derivatives_go_on s q d n n, sub_self, written_repeats n, pair_from_is s, formula),
       )
 
   climb_is : (m n : ℕ) → said ≡ climbs m n → requested s q l d
@@ -102,7 +103,7 @@ module _ (table : Request → List Float) (long : Long table) (s : Ladder) (q : 
           state = rw (is, state);
           pair = rw (is, state, pair_from_is);
           refusal = rw is;
-          written = rw (is, climbs_count m n);
+          written = rw (is, written_climbs m n);
         },
       )
 
@@ -115,7 +116,7 @@ module _ (table : Request → List Float) (long : Long table) (s : Ladder) (q : 
   start_is n f e =
       let p = means (starts_over n) e in
       let z = starts table long q l d f.0 f.1 s none n p in
-      (p.1, by (starts_over n) e ∙ outcome_by_law s q l d (starts_over n) ∙ rw (z.pair, z.state, z.values, z.derivatives, starts_count n))
+      (p.1, by (starts_over n) e ∙ outcome_by_law s q l d (starts_over n) ∙ rw (z.pair, z.state, z.values, z.derivatives, written_starts_over n))
 
   -- ---- the state handed out
 
@@ -134,13 +135,13 @@ module _ (table : Request → List Float) (long : Long table) (s : Ladder) (q : 
   holding_then f (starts_at n) a ok = rw (state_starts s q n) (state_held q (known f ok) n (omega (arith, (facts q (known f ok)).least, a.1)) (omega (arith, a.1)))
 
   machine_then : Number (request q) → (e : Effect) → Does (held_in s) q (length l) (length d) e → machine_of (held_in (state_then e s q)) ≡ held_then (machine_of (held_in s)) e (request q)
-  machine_then f stays a = rw (state_stays s q) (sym (held_stays (machine_of (held_in s)) (request q)))
+  machine_then f stays a = rw (state_stays s q) (sym (held_then_stays (machine_of (held_in s)) (request q)))
   machine_then f (goes_on m n) a =
       next_same_sequence (held_in s) q (length l) (length d) m n (held_in (state_then (goes_on m n) s q)) a (holding_then f (goes_on m n) a a.0) (rw (state_goes_on s q m n, climbed_to_is s n))
-      ∙ sym (held_goes_on (machine_of (held_in s)) m n q)
+      ∙ sym (held_then_goes_on (machine_of (held_in s)) m n q)
   machine_then f (starts_at n) a =
       rw (state_starts s q n) (state_machine q (known f a.0) n (omega (arith, (facts q (known f a.0)).least, a.1)) (omega (arith, a.1)))
-      ∙ sym (held_starts (machine_of (held_in s)) n q)
+      ∙ sym (held_then_starts_at (machine_of (held_in s)) n q)
 
   accepted_then : (w : Verdict) → Means (held_in s) q (length l) (length d) w → refused_by w ≡ 0 → refusal q (length l) (length d) ≡ 0
   unfolding refused_by
@@ -156,5 +157,5 @@ module _ (table : Request → List Float) (long : Long table) (s : Ladder) (q : 
     climb = climbed_is;
     start_over = start_is;
     holding = λ f e. rw handed_out (holding_then f (effect said) does (accepted_then said (means said refl) e));
-    machine = λ f. rw handed_out (machine_then f (effect said) does ∙ sym (next_by (machine_of (held_in s)) _));
+    machine = λ f. rw handed_out (machine_then f (effect said) does ∙ sym (next_is (machine_of (held_in s)) _));
   }

@@ -10,8 +10,9 @@ use Rattle.order.proofs.Laws.{fraction_number, fraction_small}
 use Rattle.derivatives.specs.Derivatives.{derivative}
 use Rattle.rungs.proofs.Laws.{derivative_at_law}
 use Rattle.tables.specs.Tables.{refusal, sequence_of, value_of, derivative_of, answer}
-use Rattle.tables.proofs.Calls.{not_refused_long, value_is, derivative_is, value_slot, derivative_slot, answer_accepted, table_keeps}
-use Rattle.ladder_machine.specs.Machine.{Request, holding}
+use Rattle.tables.proofs.Calls.{not_refused_long, value_of_is, derivative_of_is, value_slot, derivative_slot, answer_accepted, table_keeps}
+use Rattle.ladder_machine.specs.declared.Request.{Request}
+use Rattle.ladder_machine.specs.Machine.{holding}
 use Rattle.ladder_machine.specs.Held.{counts_empty, machine_of}
 use Rattle.ladder_machine.proofs.Laws.{machine_holding, not_counted_empty}
 use Rattle.ladder_states.specs.States.{held_in}
@@ -30,9 +31,9 @@ pub derivative_by : (q : Request) (k : ℕ)
     → derivative_of q.function q.v q.x k
     ≡ derivative q.function (below q.v) q.x (fraction_of q.v) k (value_of q.function q.v q.x k) (value_of q.function q.v q.x (k + 1))
 derivative_by q k =
-    ap (λ (g : ℕ → Float). g k) (derivative_is q.function q.v q.x)
+    ap (λ (g : ℕ → Float). g k) (derivative_of_is q.function q.v q.x)
     ∙ derivative_at_law (sequence_of q.function q.v q.x) (shifted q.v) (top_rung q.v) k
-    ∙ rw (value_is q.function q.v q.x)
+    ∙ rw (value_of_is q.function q.v q.x)
 
 module _ (q : Request) (known : Known q) where
   pub facts : Split (below q.v) (shifted q.v) (fraction_of q.v) (top_rung q.v) (num q.v)

@@ -1,9 +1,10 @@
 -- DEMAND 3: the list by induction, over what is held between two calls; and any state, by the definition's cases.
 use Rattle.std.proofs.Common.{◌≡◌, refl, sym, ap, ◌∙◌, true, List, [], ◌∷◌, map, Float}
 use Rattle.std.proofs.Math.Option.{Option, some, none}
-use Rattle.ladder_machine.specs.Machine.{Request, Inputs, request, Effect, effect, verdict, next, verdicts, after}
+use Rattle.ladder_machine.specs.declared.Request.{Request}
+use Rattle.ladder_machine.specs.Machine.{Inputs, request, Effect, effect, verdict, next, verdicts, after}
 use Rattle.ladder_machine.specs.Held.{counts_empty, machine_of}
-use Rattle.ladder_machine.proofs.Laws.{holding_parts, no_verdicts, more_verdicts, after_none, after_more}
+use Rattle.ladder_machine.proofs.Laws.{holding_is, verdicts_nil, verdicts_cons, after_nil, after_cons}
 use Rattle.ladder_states.specs.declared.Ladder.{Ladder}
 use Rattle.ladder_states.specs.States.{held_in}
 use Rattle.ladder_states.proofs.Laws.{nothing_held}
@@ -49,39 +50,39 @@ module _ (table : Request → List Float) (long : Long table) (s₀ : Ladder) (n
   all_calls : (cs : List Call) → Numbers cs → (o : Option Finished) → KnownAt o
       → map left (turns (state_at s₀ o) cs) ≡ due_all table (state_at s₀ o) (verdicts (machine_at o) (map fed cs)) cs
   unfolding turns due_all
-  all_calls [] f o k = rw (no_verdicts (machine_at o))
+  all_calls [] f o k = rw (verdicts_nil (machine_at o))
   all_calls (c ∷ cs) f o k =
       let r = call o k c f.0 in
       let rest = all_calls cs f.1 (after_call o c) r.known in
-      rw (more_verdicts (machine_at o) (fed c) (map fed cs), ← r.due_is, r.machine, r.state, rest)
+      rw (verdicts_cons (machine_at o) (fed c) (map fed cs), ← r.due_is, r.machine, r.state, rest)
 
   -- ---- the machine
 
   all_machine : (cs : List Call) → Numbers cs → (o : Option Finished) → KnownAt o
       → machine_of (held_in (last_state (state_at s₀ o) (turns (state_at s₀ o) cs))) ≡ after (machine_at o) (map fed cs)
   unfolding turns last_state
-  all_machine [] f o k = machine_at_law s₀ nothing o k ∙ sym (after_none (machine_at o))
+  all_machine [] f o k = machine_at_law s₀ nothing o k ∙ sym (after_nil (machine_at o))
   all_machine (c ∷ cs) f o k =
       let r = call o k c f.0 in
-      rw (after_more (machine_at o) (fed c) (map fed cs), r.machine, r.state) (all_machine cs f.1 (after_call o c) r.known)
+      rw (after_cons (machine_at o) (fed c) (map fed cs), r.machine, r.state) (all_machine cs f.1 (after_call o c) r.known)
 
   -- ---- the rungs after the list
 
   rungs_end : (o : Option Finished) → KnownAt o → (l d : List Float) → RungsAt table long o l d → Rungs table (machine_at o) (request_at o) l d
   rungs_end none k l d r = tt
-  rungs_end (some p) k l d r = rw (holding_parts p.request p.n) (value_rungs table long p k l d r, derivative_rungs table long p k l d r)
+  rungs_end (some p) k l d r = rw (holding_is p.request p.n) (value_rungs table long p k l d r, derivative_rungs table long p k l d r)
 
   all_rungs : (cs : List Call) → Numbers cs → (o : Option Finished) → KnownAt o → (a : Option Request) → request_at o ≡ a → (so_far : Type 0) (vs ds : List Float)
       → (so_far → RungsAt table long o vs ds)
       → HandedOn so_far vs ds (verdicts (machine_at o) (map fed cs)) (map lent (turns (state_at s₀ o) cs))
       → Rungs table (after (machine_at o) (map fed cs)) (last_accepted a (verdicts (machine_at o) (map fed cs)) cs) (last_values vs (map lent (turns (state_at s₀ o) cs))) (last_derivatives ds (map lent (turns (state_at s₀ o) cs)))
   unfolding turns last_accepted last_values last_derivatives
-  all_rungs [] f o k a e so_far vs ds r = rw (no_verdicts (machine_at o), after_none (machine_at o), ← e) (λ h. rungs_end o k vs ds (r h))
+  all_rungs [] f o k a e so_far vs ds r = rw (verdicts_nil (machine_at o), after_nil (machine_at o), ← e) (λ h. rungs_end o k vs ds (r h))
   all_rungs (c ∷ cs) f o k a e so_far vs ds r =
       let t = call o k c f.0 in
       let made = called (state_at s₀ o) c in
       let asked = later_request_law o (effect_at o c) c.inputs ∙ ap (λ (z : Option Request). later_request z (effect_at o c) c.inputs) e in
-      rw (more_verdicts (machine_at o) (fed c) (map fed cs), after_more (machine_at o) (fed c) (map fed cs), t.machine, t.state)
+      rw (verdicts_cons (machine_at o) (fed c) (map fed cs), after_cons (machine_at o) (fed c) (map fed cs), t.machine, t.state)
       (all_rungs cs f.1 (after_call o c) t.known (later_request a (effect_at o c) c.inputs) asked (Anew so_far (Handed vs ds c) (effect_at o c)) made.values made.derivatives
       (t.rungs so_far vs ds r))
 

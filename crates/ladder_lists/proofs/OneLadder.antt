@@ -6,6 +6,7 @@ use Rattle.std.proofs.Math.Option.{Option, some}
 use Rattle.std.specs.Float.{nan}
 use Rattle.std.specs.Float.Ieee.{neg, fits, is_nan, of_bits}
 use Rattle.std.proofs.Math.ListN.{length-replicate}
+use Rattle.floats.proofs.Examples.{entry_of}
 use Rattle.floats.specs.Operations.{bits, decimal, f0, f1, f2, f2_is}
 use Rattle.order.specs.Order.{num}
 use Rattle.order.proofs.Laws.{order_two, order_four, large, top, columns}
@@ -14,8 +15,9 @@ use Rattle.slots.proofs.Filled.{filled_in, filled_out}
 use Rattle.floats.specs.declared.Function.TheVariants.{D}
 use Rattle.tables.specs.Tables.{answer}
 use Rattle.tables.proofs.Values.{P7, four_values, four_answer}
-use Rattle.ladder_machine.specs.Machine.{Request, asks, repeats, climbs, starts_over, effect, verdicts, empty}
-use Rattle.ladder_machine.proofs.Laws.{repeats_count, climbs_count, starts_count}
+use Rattle.ladder_machine.specs.declared.Request.{Request}
+use Rattle.ladder_machine.specs.Machine.{asks, repeats, climbs, starts_over, effect, verdicts, empty}
+use Rattle.ladder_machine.proofs.Laws.{written_repeats, written_climbs, written_starts_over}
 use Rattle.ladder_machine.proofs.Values.{P11_verdicts}
 use Rattle.ladder_states.specs.declared.Ladder.{Ladder}
 use Rattle.ladder_states.specs.States.{empty_state}
@@ -28,10 +30,10 @@ use Rattle.ladder_lists.proofs.Held.{Known, table_value, table_derivative}
 use Rattle.ladder_lists.proofs.Lists.{demand3}
 
 -- a table for each request, just long enough
-abbrev table : Request → List Float
+abbrev pub table : Request → List Float
 table q = replicate (2 * num q.v) f0
 
-long : Long table
+pub long : Long table
 long q number small = le_of_eq (sym (length-replicate (2 * num q.v) f0))
 
 pub two_answer : answer D (decimal 2 0) f0 (length (table two)) ≡ some (neg f1, f0)
@@ -77,35 +79,32 @@ module _ (l d : List Float) (el : length l ≡ 6) (ed : length d ≡ 5) where
   pub shows : map shown (on_one_ladder empty_state (two ∷ four ∷ four ∷ two ∷ []) l d)
       ≡ (some 4, some (neg f1, f0)) ∷ (some 2, some (decimal 3 0, f0)) ∷ (some 0, some (decimal 3 0, f0)) ∷ (some 4, some (neg f1, f0)) ∷ []
   unfolding on_one_ladder shown due_all due pair_due effect
-  shows = ap (map shown) outcomes ∙ rw (two_answer, answer_at_four, starts_count 3, climbs_count 3 5, repeats_count 5)
+  shows = ap (map shown) outcomes ∙ rw (two_answer, answer_at_four, written_starts_over 3, written_climbs 3 5, written_repeats 5)
 
   -- after the last request slots 4 of both tables still hold what the second wrote: the last one writes values 0 to 3 and derivatives 0 to 2
-  nth : (n : ℕ) → get_or (first ∷ second ∷ third ∷ fourth ∷ []) n first ≡ get_or (due_all table empty_state (starts_over 3 ∷ climbs 3 5 ∷ repeats 5 ∷ starts_over 3 ∷ []) cs) n first
-  nth n = ap (λ os. get_or os n first) outcomes
-
   second_values : second.values ≡ filled (tabled_value table four) 4 4 2 first.values
   unfolding due_all due values_due effect
-  second_values = ap (λ o. o.values) (nth 1)
+  second_values = ap (λ o. o.values) (entry_of outcomes 1 first)
 
   third_values : third.values ≡ second.values
   unfolding due_all due values_due effect filled
-  third_values = ap (λ o. o.values) (nth 2)
+  third_values = ap (λ o. o.values) (entry_of outcomes 2 first)
 
   fourth_values : fourth.values ≡ filled (tabled_value table two) 0 0 4 third.values
   unfolding due_all due values_due effect
-  fourth_values = ap (λ o. o.values) (nth 3)
+  fourth_values = ap (λ o. o.values) (entry_of outcomes 3 first)
 
   second_derivatives : second.derivatives ≡ filled (tabled_derivative table four) 3 3 2 first.derivatives
   unfolding due_all due derivatives_due effect
-  second_derivatives = ap (λ o. o.derivatives) (nth 1)
+  second_derivatives = ap (λ o. o.derivatives) (entry_of outcomes 1 first)
 
   third_derivatives : third.derivatives ≡ second.derivatives
   unfolding due_all due derivatives_due effect filled
-  third_derivatives = ap (λ o. o.derivatives) (nth 2)
+  third_derivatives = ap (λ o. o.derivatives) (entry_of outcomes 2 first)
 
   fourth_derivatives : fourth.derivatives ≡ filled (tabled_derivative table two) 0 0 3 third.derivatives
   unfolding due_all due derivatives_due effect
-  fourth_derivatives = ap (λ o. o.derivatives) (nth 3)
+  fourth_derivatives = ap (λ o. o.derivatives) (entry_of outcomes 3 first)
 
   pub stored_value : get_or fourth.values 4 nan ≡ tabled_value table four 4
   stored_value =

@@ -7,11 +7,12 @@ use Rattle.std.proofs.Math.Option.{Option, some, none}
 use Rattle.std.specs.Float.{nan, binary64}
 use Rattle.std.specs.Float.Ieee.{fits}
 use Rattle.std.proofs.Math.Nat.{min-le_right}
-use Rattle.floats.proofs.Tests.{lt_or_ge}
+use Rattle.std.proofs.lemmas.Bool.{cases_lt}
 use Rattle.order.specs.Order.{num}
 use Rattle.slots.specs.Slots.{filled, slot}
 use Rattle.slots.proofs.Filled.{length_filled, filled_in, filled_out}
-use Rattle.ladder_machine.specs.Machine.{Request, request, Effect, stays, goes_on, starts_at}
+use Rattle.ladder_machine.specs.declared.Request.{Request}
+use Rattle.ladder_machine.specs.Machine.{request, Effect, stays, goes_on, starts_at}
 use Rattle.ladder_machine.specs.Held.{counts_empty}
 use Rattle.ladder_machine.proofs.Laws.{accepted, Does}
 use Rattle.ladder_states.specs.declared.Ladder.{Ladder}
@@ -35,7 +36,7 @@ onward_slot l l' e k h = sym (get_or-take (length l) l' k nan h) ∙ ap (λ (t :
 
 grown : (g : ℕ → Float) (a n : ℕ) (l : List Float) → a + n ≤ length l → ((k : ℕ) → k < a → slot l k ≡ g k) → (k : ℕ) → k < a + n → slot (filled g a a n l) k ≡ g k
 unfolding slot
-grown g a n l fit low k h = go (lt_or_ge k a)
+grown g a n l fit low k h = go (cases_lt k a)
   where
     go : (k < a) ⊎ (a ≤ k) → get_or (filled g a a n l) k nan ≡ g k
     go (inl b) = filled_out g a a n l nan k (inl b) ∙ low k b

@@ -14,8 +14,9 @@ use Rattle.rungs.specs.Rungs.{rung}
 use Rattle.rungs.specs.ColumnValues.{value}
 use Rattle.rungs.proofs.Laws.{rungs_on, value_forward}
 use Rattle.tables.specs.Tables.{sequence_of, value_of, derivative_of}
-use Rattle.tables.proofs.Calls.{value_is}
-use Rattle.ladder_machine.specs.Machine.{Request, bits_of, same_rungs, may_climb}
+use Rattle.tables.proofs.Calls.{value_of_is}
+use Rattle.ladder_machine.specs.declared.Request.{Request}
+use Rattle.ladder_machine.specs.Machine.{bits_of, same_rungs, may_climb}
 use Rattle.ladder_machine.proofs.Laws.{same_parts, climb_parts}
 use Rattle.ladder_climb.specs.Climb.Open.{carried_value_is, carried_derivative_is}
 use Rattle.ladder_climb.proofs.Climbs.{carried_low, carried_high}
@@ -44,7 +45,7 @@ module _ (p q : Request) (known_p : Known p) (known_q : Known q)
   one_sequence = rw (parts.0, parts.1, parts.2, parts.3)
 
   held_values : value_of p.function p.v p.x ≡ value r (shifted p.v) (top_rung p.v)
-  held_values = value_is p.function p.v p.x ∙ rw one_sequence
+  held_values = value_of_is p.function p.v p.x ∙ rw one_sequence
 
   held_state : held ≡ state_of r m (value_of p.function p.v p.x (m - 1)) (value_of p.function p.v p.x m)
   held_state = state_for_is p m ∙ rw one_sequence
@@ -82,7 +83,7 @@ module _ (p q : Request) (known_p : Known p) (known_q : Known q)
 
     higher_rungs : value_of q.function q.v q.x ≡ rung r
     higher_rungs =
-        value_is q.function q.v q.x
+        value_of_is q.function q.v q.x
         ∙ value_forward r (shifted q.v) (top_rung q.v) (forward_higher q.function q.x lower (facts q known_q) (omega (arith, rise.0, all)) forward)
 
     climbed_rung : (k : ℕ) → m ≤ k + 1 → value_from held k ≡ rung r k
@@ -111,7 +112,7 @@ module _ (p q : Request) (known_p : Known p) (known_q : Known q)
       where
         go : (m ≡ top_rung q.v) ⊎ (may_climb p.function (below p.v) (bits_of p.x) (bits_of (fraction_of p.v)) m (top_rung q.v) ≡ true)
             → value_of p.function p.v p.x k ≡ value_of q.function q.v q.x k
-        go (inl e) = rw (held_values, value_is q.function q.v q.x, same_shift e, ← all, e)
+        go (inl e) = rw (held_values, value_of_is q.function q.v q.x, same_shift e, ← all, e)
         go (inr climb) = rw (held_rungs climb, higher_rungs climb)
 
     pub same_derivative : (k : ℕ) → derivative_of p.function p.v p.x k ≡ derivative_of q.function q.v q.x k

@@ -9,9 +9,10 @@ use Rattle.order.specs.Order.{below, fraction_of, top_rung}
 use Rattle.slots.specs.Slots.{filled}
 use Rattle.slots.proofs.Filled.{filled_same}
 use Rattle.tables.specs.Tables.{value_of, derivative_of}
-use Rattle.ladder_machine.specs.Machine.{Request, Inputs, request, asked, refusal, Machine, empty, holding, bits_of, same_rungs, may_climb, Effect, stays, goes_on, starts_at, effect, verdict, held_then, next}
+use Rattle.ladder_machine.specs.declared.Request.{Request}
+use Rattle.ladder_machine.specs.Machine.{Inputs, request, asked, refusal, Machine, empty, holding, bits_of, same_rungs, may_climb, Effect, stays, goes_on, starts_at, effect, verdict, held_then, next}
 use Rattle.ladder_machine.specs.Held.{counts_empty, machine_of}
-use Rattle.ladder_machine.proofs.Laws.{machine_empty, accepted, Does, effect_means, next_by, held_stays, held_goes_on, held_starts}
+use Rattle.ladder_machine.proofs.Laws.{machine_empty, accepted, Does, effect_means, next_is, held_then_stays, held_then_goes_on, held_then_starts_at}
 use Rattle.ladder_states.specs.declared.Ladder.{Ladder}
 use Rattle.ladder_states.specs.States.{held_in}
 use Rattle.ladder.specs.Ladder.{state_for, value_from, derivative_from, climbed_to, pair_then, given_on, Outcome, state_then, values_then, derivatives_then, requested}
@@ -214,9 +215,9 @@ module _ (table : Request → List Float) (long : Long table) (q : Request) (l d
           go (starts_at n) k = sym (state_after q k.0 table long n (omega (arith, k.1)))
 
       pub call_machine : next (machine_at o) (asked q (length l) (length d)) ≡ machine_at (later o e (request q))
-      call_machine = next_by (machine_at o) (asked q (length l) (length d)) ∙ go e
+      call_machine = next_is (machine_at o) (asked q (length l) (length d)) ∙ go e
         where
           go : (e : Effect) → held_then (machine_at o) e (request q) ≡ machine_at (later o e (request q))
-          go stays = held_stays (machine_at o) (request q)
-          go (goes_on m n) = held_goes_on (machine_at o) m n q
-          go (starts_at n) = held_starts (machine_at o) n q
+          go stays = held_then_stays (machine_at o) (request q)
+          go (goes_on m n) = held_then_goes_on (machine_at o) m n q
+          go (starts_at n) = held_then_starts_at (machine_at o) n q

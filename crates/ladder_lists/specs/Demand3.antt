@@ -13,7 +13,8 @@ use Rattle.derivatives.specs.Derivatives.{derivative}
 use Rattle.slots.specs.Slots.{filled, slot}
 use Rattle.tables.specs.Tables.{table_after, answer}
 use Rattle.ladder_machine.specs.declared.Held.{Held}
-use Rattle.ladder_machine.specs.Machine.{Request, Inputs, request, Feed, Machine, empty, holds, Verdict, refuses}
+use Rattle.ladder_machine.specs.declared.Request.{Request}
+use Rattle.ladder_machine.specs.Machine.{Inputs, request, Feed, Machine, empty, holds, Verdict, refuses}
 use Rattle.ladder_machine.specs.Machine.{repeats, climbs, starts_over, refused_by, written, Effect, stays, goes_on}
 use Rattle.ladder_machine.specs.Machine.{starts_at, effect, verdict, next, verdicts, after}
 use Rattle.ladder_machine.specs.Held.{counts_empty, machine_of}

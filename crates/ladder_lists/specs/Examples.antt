@@ -10,7 +10,8 @@ use Rattle.start_sums_small.specs.SmallSums.{dvsa}
 use Rattle.order.specs.Order.{shifted, top_rung}
 use Rattle.floats.specs.declared.Function.TheVariants.{D, «V»}
 use Rattle.tables.specs.Tables.{refusal, table_after, answer}
-use Rattle.ladder_machine.specs.Machine.{Request, asks}
+use Rattle.ladder_machine.specs.declared.Request.{Request}
+use Rattle.ladder_machine.specs.Machine.{asks}
 use Rattle.ladder_states.specs.declared.Ladder.{Ladder}
 use Rattle.ladder_states.specs.States.{empty_state}
 use Rattle.ladder.specs.Ladder.{Outcome, requested}

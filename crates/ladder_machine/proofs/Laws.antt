@@ -1,15 +1,15 @@
 -- What the crates above may know of the machine beside the contracts.
-use Rattle.std.proofs.Common.{◌≡◌, refl, sym, ap, ◌∙◌, subst, Bool, true, false, cond, true≢false, List, [], ◌∷◌, ◌⊎◌}
-use Rattle.std.proofs.Common.{inl, inr, ℕ, zero, suc, ◌+◌, ◌-◌, ◌≤◌, ◌<◌, arith, eq-eqb, ne_eqb, eqb-true, le-ltb}
+use Rattle.std.proofs.Common.{◌≡◌, refl, sym, ap, ◌∙◌, subst, Bool, true, false, cond, true≢false, ◌⊎◌}
+use Rattle.std.proofs.Common.{inl, inr, ℕ, zero, suc, ◌+◌, ◌≤◌, ◌<◌, arith, eq-eqb, ne_eqb, eqb-true, le-ltb}
 use Rattle.std.proofs.Common.{ltb-true, ltb-false, leb-true, T, eqb, Float}
-use Rattle.std.proofs.Math.Option.{some, none}
 use Rattle.std.specs.Float.{binary64}
 use Rattle.std.specs.Float.Ieee.{fits, is_nan, le, of_bits}
 use Rattle.std.specs.Bool.{beq}
-use borrow.Author.Tests.{eqb-false}
 use Rattle.std.specs.Float.Ieee.Bits.{of_bits-to_bits}
+use Rattle.std.proofs.lemmas.Bool.{and_parts, or_parts, eqb-false}
+use Rattle.std.proofs.lemmas.Float.{T_from_true}
+use Rattle.floats.proofs.Booleans.{beq_same}
 use Rattle.floats.specs.Operations.{◌⊕◌, bits, whole, f1}
-use Rattle.floats.proofs.Booleans.{both, neither}
 use Rattle.signs.specs.Signs.{absolute}
 use Rattle.order.specs.Order.{too_large, below, fraction_of, top_rung}
 use Rattle.floats.specs.declared.Function.{Function}
@@ -17,10 +17,15 @@ use Rattle.floats.specs.declared.Function.TheVariants.{D, «V»}
 use Rattle.branches.specs.Branches.{runs_forward}
 use Rattle.table_refusals.proofs.Laws.{accepted_by}
 use Rattle.ladder_machine.specs.declared.Held.{Held}
-use Rattle.ladder_machine.specs.Machine.{Request, Inputs, request, Feed, asked, too_short, refusal, Machine, empty, holds, bits_of, holding, Verdict, refuses, repeats, climbs, starts_over, written, Effect, stays, goes_on, starts_at, effect, same_function, same_rungs, may_climb, case_by, case_of, verdict, held_then, next, verdicts, after}
-use Rattle.ladder_machine.specs.Machine.Open.{too_short_is, refusal_is, bits_of_is, holding_is, written_refuses, written_repeats, written_climbs, written_starts_over, same_D_V, same_V_D, same_rungs_is, may_climb_is, case_by_empty, case_by_holds, case_of_is, verdict_on_request, verdict_is, held_then_stays, held_then_goes_on, held_then_starts_at, next_is, verdicts_nil, verdicts_cons, after_nil, after_cons}
+use Rattle.ladder_machine.specs.declared.Request.{Request}
+use Rattle.ladder_machine.specs.Machine.{request, asked, too_short, refusal, Machine, empty, holds, bits_of, holding, Verdict, refuses, repeats, climbs, starts_over, Effect, stays, goes_on, starts_at, effect, same_function, same_rungs, may_climb, case_by, case_of, verdict, held_then, next}
+use Rattle.ladder_machine.specs.Machine.Open.{too_short_is, refusal_is, bits_of_is, same_D_V, same_V_D, same_rungs_is, may_climb_is, case_by_empty, case_by_holds, case_of_is, verdict_on_request, verdict_is}
 use Rattle.ladder_machine.specs.Held.{counts_empty, machine_of}
 use Rattle.ladder_machine.specs.Held.Open.{counts_empty_is, machine_of_is}
+-- passed on: the written counts, what is held then, and both on a list
+pub use Rattle.ladder_machine.specs.Machine.Open.{written_refuses, written_repeats, written_climbs, written_starts_over}
+pub use Rattle.ladder_machine.specs.Machine.Open.{holding_is, next_is, held_then_stays, held_then_goes_on}
+pub use Rattle.ladder_machine.specs.Machine.Open.{held_then_starts_at, verdicts_nil, verdicts_cons, after_nil, after_cons}
 
 -- ---- what is held
 
@@ -28,10 +33,10 @@ module _ (h : Held) where
   -- a state that does not count as empty
   pub not_empty : counts_empty h ≡ false → (1 ≤ h.n) × (h.n ≤ 1000) × (is_nan h.sequence.x ≡ false) × (is_nan h.sequence.f ≡ false) × (le f1 (absolute h.sequence.f) ≡ false)
   not_empty e =
-      let p = neither (sym (counts_empty_is h) ∙ e) in
-      let q = neither p.0 in
-      let r = neither q.0 in
-      let s = neither r.0 in
+      let p = or_parts _ _ (sym (counts_empty_is h) ∙ e) in
+      let q = or_parts _ _ p.0 in
+      let r = or_parts _ _ q.0 in
+      let s = or_parts _ _ r.0 in
       (some h.n s.0, ltb-false 1000 h.n s.1, r.1, q.1, p.1)
     where
       some : (n : ℕ) → eqb n 0 ≡ false → 1 ≤ n
@@ -72,7 +77,7 @@ module _ (q : Request) (values derivatives : ℕ) where
   accepted e =
       let n = top_rung q.v in
       let p = accepted_by q.v q.x (too_short n values derivatives) (sym (refusal_is q values derivatives) ∙ e) in
-      let r = neither (sym (too_short_is n values derivatives) ∙ p.3) in
+      let r = or_parts _ _ (sym (too_short_is n values derivatives) ∙ p.3) in
       let room = ltb-false values (n + 1) r.0 in
       (p.0, p.1, p.2, omega arith, ltb-false derivatives n r.1)
 
@@ -84,12 +89,6 @@ same_function_law D «V» e = absurd (true≢false (sym e ∙ same_D_V))
 same_function_law «V» D e = absurd (true≢false (sym e ∙ same_V_D))
 same_function_law «V» «V» e = refl
 
-same_side : (a b : Bool) → beq a b ≡ true → a ≡ b
-same_side true true e = refl
-same_side true false e = sym e
-same_side false true e = e
-same_side false false e = refl
-
 same_float : (a b : Float) → T (fits binary64 a) → T (fits binary64 b) → bits_of a ≡ bits_of b → a ≡ b
 same_float a b p q e = sym (of_bits-to_bits binary64 a p) ∙ ap (of_bits binary64) (sym (bits_of_is a) ∙ e ∙ bits_of_is b) ∙ of_bits-to_bits binary64 b q
 
@@ -97,10 +96,10 @@ same_float a b p q e = sym (of_bits-to_bits binary64 a p) ∙ ap (of_bits binary
 module _ (fn : Function) (s : Bool) (x f : ℕ) (fn' : Function) (s' : Bool) (x' f' : ℕ) where
   pub same_record : same_rungs fn s x f fn' s' x' f' ≡ true → (fn ≡ fn') × (s ≡ s') × (x ≡ x') × (f ≡ f')
   same_record e =
-      let a = both (sym (same_rungs_is fn s x f fn' s' x' f') ∙ e) in
-      let b = both a.0 in
-      let c = both b.0 in
-      (same_function_law fn fn' c.0, same_side s s' c.1, eqb-true x x' b.1, eqb-true f f' a.1)
+      let a = and_parts _ _ (sym (same_rungs_is fn s x f fn' s' x' f') ∙ e) in
+      let b = and_parts _ _ a.0 in
+      let c = and_parts _ _ b.0 in
+      (same_function_law fn fn' c.0, beq_same s s' (T_from_true (beq s s') c.1), eqb-true x x' b.1, eqb-true f f' a.1)
 
 -- ... and as numbers
 module _ (fn : Function) (s : Bool) (x f : Float) (fn' : Function) (s' : Bool) (x' f' : Float) where
@@ -188,41 +187,11 @@ pub climb_parts : (fn : Function) (s : Bool) (x f : Float) (m n : ℕ) → may_c
     → (m < n) × (2 ≤ m) × (T (fits binary64 x) → T (fits binary64 f) → runs_forward fn s x (whole m ⊕ f) ≡ true)
 climb_parts fn s x f m n e =
     let u = runs_forward fn s (bits (bits_of x)) (whole m ⊕ bits (bits_of f)) in
-    let a = both (sym (may_climb_is fn s (bits_of x) (bits_of f) m n) ∙ e) in
-    let b = both a.0 in
+    let a = and_parts _ _ (sym (may_climb_is fn s (bits_of x) (bits_of f) m n) ∙ e) in
+    let b = and_parts _ _ a.0 in
     (ltb-true m n b.0, leb-true 2 m b.1, λ p q. rw (bits_of_is x, bits_of_is f, of_bits-to_bits binary64 x p, of_bits-to_bits binary64 f q) at a.1)
 
--- ---- the written counts
-
-pub refuses_count : (k : ℕ) → written (refuses k) ≡ none
-refuses_count k = written_refuses k
-
-pub repeats_count : (n : ℕ) → written (repeats n) ≡ some 0
-repeats_count n = written_repeats n
-
-pub climbs_count : (m n : ℕ) → written (climbs m n) ≡ some (n - m)
-climbs_count m n = written_climbs m n
-
-pub starts_count : (n : ℕ) → written (starts_over n) ≡ some (n + 1)
-starts_count n = written_starts_over n
-
 -- ---- what is held then
-
-pub holding_parts : (q : Request) (n : ℕ) → holding q n ≡ holds q.function (below q.v) (bits_of q.x) (bits_of (fraction_of q.v)) n
-holding_parts q n = holding_is q n
-
-module _ (m : Machine) where
-  pub next_by : (d : Feed) → next m d ≡ held_then m (effect (verdict m d)) d.inputs
-  next_by d = next_is m d
-
-  pub held_stays : (i : Inputs) → held_then m stays i ≡ m
-  held_stays i = held_then_stays m i
-
-  pub held_goes_on : (k n : ℕ) (q : Request) → held_then m (goes_on k n) (request q) ≡ holding q n
-  held_goes_on k n q = held_then_goes_on m k n q
-
-  pub held_starts : (n : ℕ) (q : Request) → held_then m (starts_at n) (request q) ≡ holding q n
-  held_starts n q = held_then_starts_at m n q
 
 -- what a verdict says of the request alone, whatever the machine holds
 module _ (m : Machine) (q : Request) (values derivatives : ℕ) where
@@ -264,21 +233,6 @@ module _ (m : Machine) (q : Request) (values derivatives : ℕ) where
     where
       go : (w : Verdict) → Accepts w → held_then m (effect w) (request q) ≡ holding q (top_rung q.v)
       go (refuses k) a = absurd (a.1 (sym a.0 ∙ ok))
-      go (repeats n) a = held_goes_on m n n q ∙ ap (holding q) (sym a.1)
-      go (climbs i n) a = held_goes_on m i n q ∙ ap (holding q) (sym a.1)
-      go (starts_over n) a = held_starts m n q ∙ ap (holding q) (sym a.1)
-
--- ---- on a list
-
-module _ (m : Machine) where
-  pub no_verdicts : verdicts m [] ≡ []
-  no_verdicts = verdicts_nil m
-
-  pub more_verdicts : (d : Feed) (ds : List Feed) → verdicts m (d ∷ ds) ≡ verdict m d ∷ verdicts (next m d) ds
-  more_verdicts d ds = verdicts_cons m d ds
-
-  pub after_none : after m [] ≡ m
-  after_none = after_nil m
-
-  pub after_more : (d : Feed) (ds : List Feed) → after m (d ∷ ds) ≡ after (next m d) ds
-  after_more d ds = after_cons m d ds
+      go (repeats n) a = held_then_goes_on m n n q ∙ ap (holding q) (sym a.1)
+      go (climbs i n) a = held_then_goes_on m i n q ∙ ap (holding q) (sym a.1)
+      go (starts_over n) a = held_then_starts_at m n q ∙ ap (holding q) (sym a.1)

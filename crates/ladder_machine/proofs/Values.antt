@@ -10,9 +10,10 @@ use Rattle.floats.specs.declared.Function.TheVariants.{D}
 use Rattle.branches.proofs.Laws.{forward_runs}
 use Rattle.branches.proofs.Laws.{D_forward}
 use Rattle.table_refusals.proofs.Laws.{not_refused, of_numbers}
-use Rattle.ladder_machine.specs.Machine.{Request, asks, Feed, asked, too_short, refusal, Machine, empty, holds, bits_of, holding, refuses, repeats, climbs, starts_over, may_climb, verdict, next, verdicts}
+use Rattle.ladder_machine.specs.declared.Request.{Request}
+use Rattle.ladder_machine.specs.Machine.{asks, Feed, asked, too_short, refusal, Machine, empty, holds, bits_of, holding, refuses, repeats, climbs, starts_over, may_climb, verdict, next, verdicts}
 use Rattle.ladder_machine.specs.Machine.Open.{too_short_is, refusal_is, holding_is, same_D_D, same_rungs_is, may_climb_is, case_by_empty, case_by_holds, case_of_is, verdict_on_request, verdict_is}
-use Rattle.ladder_machine.proofs.Laws.{next_accepted, no_verdicts, more_verdicts}
+use Rattle.ladder_machine.proofs.Laws.{next_accepted, verdicts_nil, verdicts_cons}
 
 -- D at x = 0 and an order with f = 0 from 0 on, with tables of 6 and 5 slots
 module _ (v u : Float) (n m : ℕ) (e : parts v ≡ (false, false, u, f0, n, m)) (number : is_nan v ≡ false) (room : too_short n 6 5 ≡ false) where
@@ -75,18 +76,18 @@ unfolding is_nan of_bits decimal
 P11_verdicts =
     let h = holds D false (bits_of f0) (bits_of f0) in
     rw (
-      more_verdicts empty two (four ∷ four ∷ two ∷ []),
+      verdicts_cons empty two (four ∷ four ∷ two ∷ []),
       from_empty (decimal 2 0) _ 3 5 order_two refl (too_short_is 3 6 5),
       held (decimal 2 0) _ 3 5 order_two refl (too_short_is 3 6 5) empty,
-      more_verdicts (h 3) four (four ∷ two ∷ []),
+      verdicts_cons (h 3) four (four ∷ two ∷ []),
       from_held (decimal 4 0) _ 5 7 order_four refl (too_short_is 5 6 5) 3,
       held (decimal 4 0) _ 5 7 order_four refl (too_short_is 5 6 5) (h 3),
-      more_verdicts (h 5) four (two ∷ []),
+      verdicts_cons (h 5) four (two ∷ []),
       from_held (decimal 4 0) _ 5 7 order_four refl (too_short_is 5 6 5) 5,
       held (decimal 4 0) _ 5 7 order_four refl (too_short_is 5 6 5) (h 5),
-      more_verdicts (h 5) two [],
+      verdicts_cons (h 5) two [],
       from_held (decimal 2 0) _ 3 5 order_two refl (too_short_is 3 6 5) 5,
-      no_verdicts (next (h 5) two),
+      verdicts_nil (next (h 5) two),
     )
 
 -- from n = 1 it starts over, from n = 2 it climbs
@@ -95,15 +96,15 @@ unfolding is_nan of_bits decimal
 limit_verdicts =
     let h = holds D false (bits_of f0) (bits_of f0) in
     rw (
-      more_verdicts empty zero (one ∷ two ∷ []),
+      verdicts_cons empty zero (one ∷ two ∷ []),
       from_empty f0 _ 1 3 order_zero refl (too_short_is 1 6 5),
       held f0 _ 1 3 order_zero refl (too_short_is 1 6 5) empty,
-      more_verdicts (h 1) one (two ∷ []),
+      verdicts_cons (h 1) one (two ∷ []),
       from_held f1 _ 2 4 order_one refl (too_short_is 2 6 5) 1,
       held f1 _ 2 4 order_one refl (too_short_is 2 6 5) (h 1),
-      more_verdicts (h 2) two [],
+      verdicts_cons (h 2) two [],
       from_held (decimal 2 0) _ 3 5 order_two refl (too_short_is 3 6 5) 2,
-      no_verdicts (next (h 2) two),
+      verdicts_nil (next (h 2) two),
     )
 
 -- order 2, n = 3: 4 values and 3 derivatives do, one fewer of either gives 3, also where the request is held and nothing would be written

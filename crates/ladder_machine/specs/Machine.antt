@@ -11,17 +11,13 @@ use Rattle.order.specs.Order.{below, fraction_of, top_rung}
 use Rattle.floats.specs.declared.Function.{Function}
 use Rattle.floats.specs.declared.Function.TheVariants.{D, «V»}
 use Rattle.branches.specs.Branches.{runs_forward}
+use Rattle.ladder_machine.specs.declared.Request.{Request}
 use Rattle.table_refusals.specs.Refusals.{refusal_by}
 pub mod Open
 
 -- ---- what it is fed
 
--- a request: a function, an order v and an argument x
-pub record Request : Type 0 where
-  pub function : Function
-  pub v : Float
-  pub x : Float
-
+-- a request, the record of src/lib.rt: a function, an order v and an argument x
 abbrev pub asks : Function → Float → Float → Request
 asks fn v x = record { function = fn; v = v; x = x }
 

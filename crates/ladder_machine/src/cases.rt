@@ -9,7 +9,7 @@ ghost use Rattle.ladder_machine.specs.Held.{counts_empty, machine_of, verdict_of
 
 use crate::{Case, Held};
 use order::{Rung, Sequence};
-use signs::{abs, alike, is_nan};
+use signs::{abs, alike};
 
 impl Held {
     // Whether a state with these fields counts as empty.
@@ -17,7 +17,7 @@ impl Held {
         ensures { result ≡ counts_empty self }
     {
         let Sequence { x, f, .. } = self.sequence;
-        self.n == 0 || self.n > 1000 || is_nan(x) || is_nan(f) || 1.0 <= abs(f)
+        self.n == 0 || self.n > 1000 || x.is_nan() || f.is_nan() || 1.0 <= abs(f)
     }
 
     // Whether rungs up to n may go on from those held.

@@ -6,13 +6,21 @@
 mod cases;
 
 ghost use Rattle.std.specs.Prelude.{◌≡◌};
-ghost use Rattle.ladder_machine.specs.Machine.{asks, asked, too_short, verdict};
+ghost use Rattle.ladder_machine.specs.Machine.{asked, too_short, verdict};
 ghost use Rattle.ladder_machine.specs.Held.{machine_of, verdict_of};
 
 use answer::Refusal;
 use cases::case_of;
 use floats::Function;
 use order::{Rung, Sequence, Size};
+
+// A request for D or V at the order v and the argument x.
+#[derive(Clone, Copy)]
+pub struct Request {
+    pub function: Function,
+    pub v: f64,
+    pub x: f64,
+}
 
 // What a ladder holds beside its two values: rungs 0 to n of a sequence. It counts as empty where n is 0 or above 1000,
 // x or f is NaN, or the size of f is 1 or more.
@@ -40,16 +48,16 @@ fn too_short(n: Size, values: usize, derivatives: usize) -> bool
 }
 
 // The judgement of a request, by what is held and the lengths of the two tables.
+#[tactic(auto, using(crate::proofs::Tests::judging), unfolding(crate::specs::Held::verdict_of))]
 pub fn judge(
     held: Held,
-    function: Function,
-    v: f64,
-    x: f64,
+    request: Request,
     values: usize,
     derivatives: usize,
 ) -> Result<Case, Refusal>
-    ensures { verdict_of result ≡ verdict (machine_of held) (asked (asks function v x) values derivatives) }
+    ensures { verdict_of result ≡ verdict (machine_of held) (asked request values derivatives) }
 {
+    let Request { function, v, x } = request;
     let split = order::split(v);
     table_refusals::check(v, x, too_short(split.n, values, derivatives))?;
     Ok(case_of(held, split.sequence(function, x), split.n))

@@ -10,7 +10,7 @@ ghost use Rattle.ladder_reader.specs.Numbers.{column_of, column_in};
 use crate::{Column, read_column};
 
 // A number that names neither table. Not shared with `floats::UnknownFunction`: the column reader needs no other crate.
-#[derive(Clone, Copy, PartialEq, Eq)]
+#[derive(Clone, Copy, PartialEq, Eq, Debug)]
 pub struct UnknownColumn {
     pub number: u32,
 }
@@ -34,8 +34,7 @@ impl TryFrom<u32> for Column {
 pub fn column_length(values: &[f64], derivatives: &[f64], which: u32, c: usize) -> usize
     ensures { result ≡ length (column_in which c values.now derivatives.now) }
 {
-    match Column::try_from(which) {
-        Ok(column) => read_column(values, derivatives, column, c).len(),
-        Err(_) => 0,
-    }
+    Column::try_from(which).map_or(0, |column| {
+        read_column(values, derivatives, column, c).len()
+    })
 }

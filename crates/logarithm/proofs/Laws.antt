@@ -1,21 +1,19 @@
 -- What the crates above may know of ln and of powers beside their contracts.
-use Rattle.std.proofs.Common.{◌≡◌, refl, ap, ◌∙◌, List, false, ℕ, get_or}
+use Rattle.std.proofs.Common.{◌≡◌, refl, ◌∙◌, false}
 use Rattle.std.specs.Float.{Float, nan, inf}
 use Rattle.std.specs.Float.Ieee.{neg, mul, eq, of_bits}
+use Rattle.floats.proofs.Examples.{entry_of}
 use Rattle.floats.specs.Operations.{◌⊗◌, bits, decimal, f0, f1}
 use Rattle.exponential.specs.Exponential.{exp}
 use Rattle.logarithm.specs.Logarithm.{ln, power}
 use Rattle.logarithm.specs.Logarithm.Open.{power_is}
-use Rattle.logarithm.specs.Logarithm.Examples.{computed, values, examples_hold}
-use Rattle.exponential.proofs.Laws as exponential
+use Rattle.logarithm.specs.Logarithm.Examples.{examples_hold}
+use Rattle.exponential.specs.Exponential.Examples as exponential
 
 -- ---- values from the list of examples, by their place in it
 
-pub value : (n : ℕ) → get_or computed n nan ≡ get_or values n nan
-value n = ap (λ (l : List Float). get_or l n nan) examples_hold
-
 pub ln_one : ln f1 ≡ f0
-ln_one = value 0
+ln_one = entry_of examples_hold 0 nan
 
 -- ---- a power with p = 0 is 1 for every b, NaN and negative numbers too
 
@@ -35,24 +33,24 @@ by_values b p l r z a e = power_is b p ∙ rw (z, a) e
 
 pub power_of_nan : power nan f1 ≡ nan
 unfolding eq mul of_bits
-power_of_nan = by_values _ _ _ _ refl (value 13) (exponential.value 11)
+power_of_nan = by_values _ _ _ _ refl (entry_of examples_hold 13 nan) (entry_of exponential.examples_hold 11 nan)
 
 pub power_root_of_two : power (decimal 2 0) (decimal 5 1) ≡ bits 0x3ff6_a09e_667f_3bcc
 unfolding eq mul of_bits decimal
-power_root_of_two = by_values _ _ _ _ refl (value 1) (exponential.value 30)
+power_root_of_two = by_values _ _ _ _ refl (entry_of examples_hold 1 nan) (entry_of exponential.examples_hold 30 nan)
 
 pub power_of_zero : power f0 (decimal 2 0) ≡ f0
 unfolding eq mul of_bits decimal
-power_of_zero = by_values _ _ _ _ refl (value 8) (exponential.value 10)
+power_of_zero = by_values _ _ _ _ refl (entry_of examples_hold 8 nan) (entry_of exponential.examples_hold 10 nan)
 
 pub power_of_minus_zero : power (neg f0) (neg f1) ≡ inf false
 unfolding eq mul neg of_bits
-power_of_minus_zero = by_values _ _ _ _ refl (value 9) (exponential.value 9)
+power_of_minus_zero = by_values _ _ _ _ refl (entry_of examples_hold 9 nan) (entry_of exponential.examples_hold 9 nan)
 
 pub power_below_zero : power (neg f1) (decimal 2 0) ≡ nan
 unfolding eq mul neg of_bits decimal
-power_below_zero = by_values _ _ _ _ refl (value 10) (exponential.value 11)
+power_below_zero = by_values _ _ _ _ refl (entry_of examples_hold 10 nan) (entry_of exponential.examples_hold 11 nan)
 
 pub power_of_ten : power (decimal 10 0) (neg (decimal 3005 1)) ≡ bits 0x018b_1b75_8337_8ff2
 unfolding eq mul neg of_bits decimal
-power_of_ten = by_values _ _ _ _ refl (value 2) (exponential.value 31)
+power_of_ten = by_values _ _ _ _ refl (entry_of examples_hold 2 nan) (entry_of exponential.examples_hold 31 nan)

@@ -1,8 +1,8 @@
 -- The significand and the exponent of a float above 0, by its bit pattern. N * 2 ^ e has the `size N` digits of N and is N * 2 ^ E units of 2 ^ -1074.
 -- Its pattern has the 53 digits N * 2 ^ (53 - size N), and its field says how many places lie below them.
 use Rattle.std.proofs.Common.{◌≡◌, refl, sym, ap, ◌∙◌, subst, Bool, true, false, ◌&&◌, ℕ, zero, suc, ◌+◌, ◌-◌, ◌*◌, ◌/◌}
-use Rattle.std.proofs.Common.{◌%◌, ◌^◌, ◌<◌, ◌≤◌, lt_of_lt_of_le, lt_of_le_of_lt, lt_of_not-le, not-le_of_lt, le_trans}
-use Rattle.std.proofs.Common.{le_of_lt, mul-le-mul_right, mul-le-mul_left, mul_assoc, div-one, mul-one, zero-add, arith}
+use Rattle.std.proofs.Common.{◌%◌, ◌^◌, ◌<◌, ◌≤◌, lt_of_lt_of_le, lt_of_le_of_lt, le_trans}
+use Rattle.std.proofs.Common.{le_of_lt, mul-le-mul_right, mul-le-mul_left, div-one, mul-one, zero-add, arith}
 use Rattle.std.proofs.Common.{ltb-true, ltb-false, leb-true, leb-false, lt-ltb, le-ltb, T, ltb, leb, eqb, lt→ltb}
 use Rattle.std.proofs.Common.{le→leb, ltb→lt, leb→le, eqb→eq, lit<, lit≤, ℤ, pos, negsuc, neg_ℤ, ◌+ℤ◌, ◌-ℤ◌, pow_pos}
 use Rattle.std.proofs.Common.{pow_mono, pow-add, shl_lt}
@@ -14,10 +14,8 @@ use Rattle.std.specs.Float.Ieee.Bits.{of_bits-to_bits}
 use Rattle.std.specs.Float.Ieee.Fits.{and_i, and_l, and_r, eq→eqb, of_int-fits}
 use Rattle.std.specs.Float.Ieee.Back.{whole_unique}
 use Rattle.std.specs.Float.Ieee.Digits.{size-lt, size-le, size_reaches}
+use Rattle.floats.proofs.Powers.{pow_lt_back, shl_shl, shl_split}
 use Rattle.floats.proofs.Values.{of_int_pos}
-
-pow_lt_back : (i j : ℕ) → 2 ^ i < 2 ^ j → i < j
-pow_lt_back i j h = lt_of_not-le (λ (g : j ≤ i). not-le_of_lt h (pow_mono g))
 
 size_pos : (N : ℕ) → 0 < N → 0 < size N
 size_pos N p = pow_lt_back 0 (size N) (lt_of_le_of_lt p (size-lt N))
@@ -59,7 +57,7 @@ pattern N E p q e =
     let f : 53 - size N + k ≡ E = omega arith in
     rw (size_shift N E p, zero-add (k * 2 ^ 52))
     (ap (λ (x : ℕ). k * 2 ^ 52 + x)
-    (subst (λ (j : ℕ). N * 2 ^ j / 2 ^ k ≡ whole N) f (rw (pow-add 2 (53 - size N) k, ← mul_assoc N (2 ^ (53 - size N)) (2 ^ k)) (shl-shr (whole N) k))))
+    (subst (λ (j : ℕ). N * 2 ^ j / 2 ^ k ≡ whole N) f (rw (← shl_shl N (53 - size N) k) (shl-shr (whole N) k))))
 
 -- the exponent in units
 abbrev place : ℤ → ℕ
@@ -72,14 +70,8 @@ Above (pos a) = Unit
 Above (negsuc a) = suc a ≤ 1074
 
 magnitude : (N : ℕ) (e : ℤ) → Above e → N * up e * 2 ^ 1074 / down e ≡ N * 2 ^ place e
-magnitude N (pos a) h = div-one (N * 2 ^ a * 2 ^ 1074) ∙ mul_assoc N (2 ^ a) (2 ^ 1074) ∙ ap (λ (x : ℕ). N * x) (sym (pow-add 2 a 1074))
-magnitude N (negsuc a) h =
-    let e : 1074 - suc a + suc a ≡ 1074 = omega arith in
-    let b : 2 ^ 1074 ≡ 2 ^ (1074 - suc a) * 2 ^ suc a = subst (λ (j : ℕ). 2 ^ j ≡ 2 ^ (1074 - suc a) * 2 ^ suc a) e (pow-add 2 (1074 - suc a) (suc a)) in
-    rw (mul-one N)
-    (ap (λ (x : ℕ). N * x / 2 ^ suc a) b
-    ∙ ap (λ (x : ℕ). x / 2 ^ suc a) (sym (mul_assoc N (2 ^ (1074 - suc a)) (2 ^ suc a)))
-    ∙ shl-shr (N * 2 ^ (1074 - suc a)) (suc a))
+magnitude N (pos a) h = div-one (N * 2 ^ a * 2 ^ 1074) ∙ shl_shl N a 1074
+magnitude N (negsuc a) h = rw (mul-one N) (ap (λ (x : ℕ). x / 2 ^ suc a) (shl_split N 1074 (suc a) h) ∙ shl-shr (N * 2 ^ (1074 - suc a)) (suc a))
 
 to_bits_law : (N : ℕ) (e : ℤ) → 0 < N → size N ≤ 53 → Above e → 53 ≤ size N + place e → to_bits binary64 (fin false N e) ≡ (size N + place e - 53) * 2 ^ 52 + whole N
 unfolding to_bits

@@ -7,6 +7,7 @@ ghost use Rattle.logarithm.specs.Logarithm.{ln_sum, ln_near_one, ln_of_parts, ln
 ghost use Rattle.logarithm.specs.LnSteps.{ln_of_pattern};
 
 use exponential::exp;
+use std::f64::consts::SQRT_2;
 
 // The series from the inside out, over 2g.
 fn ln_sum(z: f64) -> f64
@@ -40,7 +41,7 @@ fn ln_of_parts(m: f64, field: u16, bias: u16) -> f64
     requires { field < 65535 }
     ensures { result ≡ ln_of_parts m (pos field -ℤ pos bias) }
 {
-    if m >= 1.4142135623730951 {
+    if m >= SQRT_2 {
         ln_near_one(m * 0.5, f64::from(exponent(field + 1, bias)))
     } else {
         ln_near_one(m, f64::from(exponent(field, bias)))

@@ -11,40 +11,31 @@ ghost use Rattle.maclaurin.specs.Maclaurin.{refusal, answer};
 
 use answer::{Answer, Refusal};
 use maclaurin_series::pb_maclaurin;
-use signs::{is_infinite, is_nan};
-
-// Apart, since with both chains inside `check` the goals about `any` stay open.
-fn any_nan(inputs: &[f64]) -> bool
-    ensures { result ≡ list_any is_nan inputs.now }
-{
-    inputs.iter().any(|y| is_nan(*y))
-}
-
-fn any_infinite(inputs: &[f64]) -> bool
-    ensures { result ≡ list_any infinite inputs.now }
-{
-    inputs.iter().any(|y| is_infinite(*y))
-}
+use mul_exp::Mantissas;
+use signs::is_infinite;
 
 // Whether the request is refused: an input is NaN, or one is infinite.
 fn check(inputs: &[f64]) -> Result<(), Refusal>
     ensures { refusal_of result
         ≡ cond (list_any is_nan inputs.now) 1 (cond (list_any infinite inputs.now) 5 0) }
 {
-    if any_nan(inputs) {
+    if inputs.iter().any(|y| y.is_nan()) {
         return Err(Refusal::NotANumber);
     }
-    if any_infinite(inputs) {
+    if inputs.iter().any(|y| is_infinite(*y)) {
         return Err(Refusal::Infinite);
     }
     Ok(())
 }
 
-// The request.
-pub fn maclaurin(a: f64, x: f64, c0: f64, c1: f64, e: f64) -> Answer
-    ensures number { refusal_of result ≡ refusal a x c0 c1 e }
-    ensures pair { pair_of result ≡ answer a x c0 c1 e }
+// The request: w(x) and w'(x), with w(0) and w'(0) as mantissas.
+pub fn maclaurin(a: f64, x: f64, start: Mantissas) -> Answer
+    ensures number { refusal_of result
+        ≡ refusal a x start.pair.value start.pair.derivative start.exponent }
+    ensures pair { pair_of result
+        ≡ answer a x start.pair.value start.pair.derivative start.exponent }
 {
-    check(&[a, x, c0, c1, e])?;
-    Ok(pb_maclaurin(a, x, c0, c1, e))
+    let Mantissas { pair, exponent } = start;
+    check(&[a, x, pair.value, pair.derivative, exponent])?;
+    Ok(pb_maclaurin(a, x, start))
 }

@@ -6,9 +6,9 @@ use Rattle.std.proofs.Math.Bool.{beq}
 use Rattle.std.proofs.Math.Dec.{eqb_refl}
 use Rattle.std.specs.Float.Ieee.{nan, inf, binary64, neg, eq, level, is_nan, unlike}
 use Rattle.std.specs.Float.Ieee.Fits.{and_i, eq→eqb}
+use Rattle.std.proofs.lemmas.Bool.{cases_lt}
 use Rattle.floats.specs.Operations.{◌⊕◌, ◌⊖◌, ◌⊗◌, f½}
 use Rattle.floats.proofs.Booleans.{or_r}
-use Rattle.floats.proofs.Tests.{lt_or_ge}
 use Rattle.floats.proofs.Comparison.{eq_at}
 use Rattle.floats.proofs.Arithmetic.{sub_is}
 use Rattle.floats.proofs.Opposites.{unlike_false, unlike_true}
@@ -62,7 +62,7 @@ odd_zero = refl
 
 pub odd_next : (k : ℕ) → odd (suc k) ≡ not (odd k)
 unfolding odd
-odd_next k = elim (lt_or_ge (k % 2) 1) [
+odd_next k = elim (cases_lt (k % 2) 1) [
   | inl h ↦
       let e : k % 2 ≡ 0 = omega arith in
       let f : suc k % 2 ≡ 1 = omega arith in

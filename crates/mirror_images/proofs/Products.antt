@@ -1,11 +1,11 @@
 -- A product of mirror images is a mirror image, and the signs multiply.
 use Rattle.std.proofs.Common.{◌≡◌, refl, sym, ap, ◌∙◌, ◌⊎◌, inl, inr, ℕ, zero, suc, ◌*◌, ◌<◌, zero-mul, mul-zero}
-use Rattle.std.proofs.Common.{mul-one, mul-pos, arith, Bool, false, cond, ne_eqb, eqb, ℤ, Float}
+use Rattle.std.proofs.Common.{mul-one, mul-pos, arith, Bool, false, cond, ne_eqb, eqb, ℤ, Float, zero-lt-suc}
 use Rattle.std.specs.Float.Ieee.{nan, inf, fin, binary64, up, down, mul, unlike}
 use Rattle.std.specs.Float.Ieee.Exact.{HasValue}
 use Rattle.std.specs.Float.Ieee.Fits.{up_pos, down_pos}
 use Rattle.floats.specs.Operations.{◌⊗◌}
-use Rattle.floats.proofs.Tests.{one, eqb_same}
+use Rattle.floats.proofs.Tests.{eqb_same}
 use Rattle.floats.proofs.Arithmetic.{mul_at}
 use Rattle.floats.proofs.Opposites.{unlike_assoc, unlike_comm}
 use Rattle.mirror_images.specs.Images.{MirrorOf}
@@ -29,7 +29,7 @@ mul_inf_inf s t = refl
 
 same_zero : (n : ℕ) (e : ℤ) (b d : ℕ) → 0 < d → n * up e * d ≡ b * down e → eqb n 0 ≡ eqb b 0
 same_zero n e b d D w =
-    eqb_same n 0 1 (n * up e) 0 (up e) one (up_pos e) (sym (mul-one (n * up e))) (zero-mul (up e) ∙ sym (zero-mul 1))
+    eqb_same n 0 1 (n * up e) 0 (up e) (zero-lt-suc 0) (up_pos e) (sym (mul-one (n * up e))) (zero-mul (up e) ∙ sym (zero-mul 1))
     ∙ eqb_same (n * up e) 0 (down e) b 0 d (down_pos e) D w (zero-mul d ∙ sym (zero-mul (down e)))
 
 -- an infinity times a number is NaN where that is 0

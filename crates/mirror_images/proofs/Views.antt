@@ -1,6 +1,6 @@
 -- Mirror images are both NaN, both infinite, or of one size, with signs that agree with the relation's or a size of 0.
 use Rattle.std.proofs.Common.{◌≡◌, refl, sym, ap, ◌∙◌, subst, ◌⊎◌, inl, inr, ℕ, ◌*◌, ◌<◌, zero-mul, Bool, true, false}
-use Rattle.std.proofs.Common.{T, Float}
+use Rattle.std.proofs.Common.{T, Float, zero-lt-suc, zero-le}
 use Rattle.std.specs.Float.Ieee.{nan, inf, fin, binary64, up, down, neg, round, unlike, eq, is_nan}
 use Rattle.std.specs.Float.Ieee.Back.{round_whole}
 use Rattle.std.specs.Float.Ieee.Bits.{is_true}
@@ -8,7 +8,6 @@ use Rattle.std.specs.Float.Ieee.Exact.{HasValue}
 use Rattle.std.specs.Float.Ieee.Fits.{and_i, and_l, and_r, down_pos}
 use Rattle.std.specs.Float.Ieee.Scale.{round_same}
 use Rattle.floats.specs.Operations.{f0}
-use Rattle.floats.proofs.Tests.{one}
 use Rattle.floats.proofs.Values.{own_value, neg_value}
 use Rattle.floats.proofs.Comparison.{zero_equal, equal_zero}
 use Rattle.floats.proofs.Rounding.{round_neg}
@@ -55,7 +54,7 @@ view s a b (nans t) =
 view s a b (zeros t) =
     let p = equal_zero a (and_l (eq a f0) (eq b f0) t) in
     let q = equal_zero b (and_r (eq a f0) (eq b f0) t) in
-    sized (record { t = p.0; u = q.0; m = 0; c = 1; positive = one; left = p.1; right = q.1; signs = inl refl })
+    sized (record { t = p.0; u = q.0; m = 0; c = 1; positive = zero-lt-suc 0; left = p.1; right = q.1; signs = inl refl })
 view s nan b (exact e) = no_numbers refl (e ∙ signed_nan s)
 view s (inf t) b (exact e) = infinite t (unlike s t) refl refl (e ∙ signed_inf s t)
 view s (fin t m d) b (exact e) =
@@ -81,8 +80,8 @@ infinite_images s t u a b h p q = exact (q ∙ ap inf h ∙ sym (signed_inf s t)
 
 round_zero : (s : Bool) (c : ℕ) → 0 < c → HasValue (round binary64 s 0 c) s 0 1
 round_zero s c C =
-    subst (λ (z : Float). HasValue z s 0 1) (sym (round_same binary64 s 0 c 0 1 C one (zero-mul 1 ∙ sym (zero-mul c))))
-    (round_whole binary64 s 0 Prim.Native.Nat.zero-le)
+    subst (λ (z : Float). HasValue z s 0 1) (sym (round_same binary64 s 0 c 0 1 C (zero-lt-suc 0) (zero-mul 1 ∙ sym (zero-mul c))))
+    (round_whole binary64 s 0 zero-le)
 
 -- a size that is rounded with two signs
 round_images : (s r q : Bool) (n c : ℕ) → 0 < c → (n ≡ 0) ⊎ (q ≡ unlike s r) → MirrorOf s (round binary64 r n c) (round binary64 q n c)

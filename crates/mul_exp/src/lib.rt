@@ -9,6 +9,13 @@ use answer::Pair;
 use exponential::exp;
 use signs::abs;
 
+// A value and a derivative as mantissas with one exponent: each is its mantissa times e^exponent.
+#[derive(Clone, Copy)]
+pub struct Mantissas {
+    pub pair: Pair,
+    pub exponent: f64,
+}
+
 // m * e^e: m * h * h with h = e^(e/2), which is a normal float up to a size of 1400; beyond it e^(ln|m| + e) with the
 // sign of m.
 #[tactic(auto, using(crate::specs::MulExp::Open::beyond, crate::specs::MulExp::Open::within))]
@@ -23,22 +30,23 @@ pub fn mul_exp(m: f64, e: f64) -> f64
     }
 }
 
-// Both numbers times e^e, with one exponential where they are products.
+// Both numbers, each its mantissa times e^exponent, with one exponential where they are products.
 #[tactic(auto, using(crate::specs::MulExp::Open::beyond, crate::specs::MulExp::Open::within))]
-pub fn mul_exp_both(m: Pair, e: f64) -> Pair
-    ensures value { result.value ≡ mul_exp m.value e }
-    ensures derivative { result.derivative ≡ mul_exp m.derivative e }
+pub fn mul_exp_both(m: Mantissas) -> Pair
+    ensures value { result.value ≡ mul_exp m.pair.value m.exponent }
+    ensures derivative { result.derivative ≡ mul_exp m.pair.derivative m.exponent }
 {
-    if abs(e) > 1400.0 {
+    let Mantissas { pair, exponent } = m;
+    if abs(exponent) > 1400.0 {
         Pair {
-            value: mul_exp(m.value, e),
-            derivative: mul_exp(m.derivative, e),
+            value: mul_exp(pair.value, exponent),
+            derivative: mul_exp(pair.derivative, exponent),
         }
     } else {
-        let h = exp(0.5 * e);
+        let h = exp(0.5 * exponent);
         Pair {
-            value: m.value * h * h,
-            derivative: m.derivative * h * h,
+            value: pair.value * h * h,
+            derivative: pair.derivative * h * h,
         }
     }
 }

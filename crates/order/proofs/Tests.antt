@@ -1,23 +1,22 @@
 -- Tests and casts of a split's u, and its f with 0 added or taken off, as the source makes them.
 use Rattle.std.proofs.Common.{◌≡◌, refl, sym, ap, ◌∙◌, subst, Bool, true, false, not, ◌&&◌, ◌||◌, ℕ, zero, suc, ◌+◌}
-use Rattle.std.proofs.Common.{◌*◌, ◌/◌, ◌^◌, ◌≤◌, ◌<◌, zero-le, le_trans, le_of_eq, lt_irrefl, lt_of_lt_of_le, one-mul}
-use Rattle.std.proofs.Common.{zero-mul, add-zero, mul-le-mul_right, le-add_right, arith, ne_eqb, T, ltb, eqb, ltb→lt}
-use Rattle.std.proofs.Common.{pow_pos, pos}
-use Rattle.std.specs.Float.Ieee.{Float, nan, inf, fin, binary64, low, round, sum, neg, lt, le, below, fits, is_nan}
+use Rattle.std.proofs.Common.{◌*◌, ◌/◌, ◌^◌, ◌≤◌, ◌<◌, zero-le, le_trans, le_of_eq, lt_of_lt_of_le, one-mul}
+use Rattle.std.proofs.Common.{zero-mul, add-zero, mul-le-mul_right, le-add_right, arith, ne_eqb, T, ltb, eqb}
+use Rattle.std.proofs.Common.{pow_pos, pos, le-ltb}
+use Rattle.std.specs.Float.Ieee.{Float, fin, binary64, low, round, sum, neg, lt, le, below, fits, is_nan}
 use Rattle.std.specs.Float.Ieee.{of_int, to_signed}
 use Rattle.std.specs.Float.Ieee.Exact.{HasValue}
-use Rattle.std.proofs.Math.Bool.{beq}
-use Rattle.std.proofs.Math.Dec.{not_T}
+use Rattle.std.proofs.Math.Bool.{beq, and-false, or-false, not-not}
 use Rattle.std.proofs.Math.Nat.{sub-zero, mul-add-div_right, div-eq_of_lt}
-use Rattle.std.specs.Float.Ieee.Bits.{is_false}
 use Rattle.floats.specs.Operations.{◌⊕◌, ◌⊖◌, whole, f0, f1}
-use Rattle.floats.proofs.Values.{neg_value, to_signed_at}
+use Rattle.std.proofs.lemmas.Float.{T_from_false}
+use Rattle.floats.proofs.Values.{value_number, neg_value, to_signed_at, zero_over}
 use Rattle.floats.proofs.Arithmetic.{add_at, sub_is, sum_plus, sum_minus}
 use Rattle.floats.proofs.Wholes.{plus_zero}
 use Rattle.floats.proofs.Rounding.{round_back}
 use Rattle.floats.proofs.Comparison.{lt_at, le_at, float_lt_total}
 use Rattle.order.specs.Facts.{Split}
-use Rattle.order.proofs.Facts.{one_value, nought_value, capped}
+use Rattle.order.proofs.Facts.{one_value, capped}
 
 -- ---- casts
 
@@ -49,26 +48,12 @@ module _ {u f : Float} {n m : ℕ} where
       let l = 2 ^ low binary64 in
       let U = n * l + facts.rest in
       lt_at u f1 false U false l l (pow_pos (low binary64)) facts.u_value (one_value l)
-      ∙ is_false (ltb U l) (not_T (ltb U l) (λ t. lt_irrefl U (lt_of_lt_of_le (ltb→lt U l t) (one_and_more n facts.rest l facts.least))))
+      ∙ le-ltb U l (one_and_more n facts.rest l facts.least)
 
 -- ---- the side
 
 some_units : (a : ℕ) → 0 < a → (b : Bool) → (eqb a 0 && b) ≡ false
 some_units a h b = ap (λ (z : Bool). z && b) (ne_eqb a 0 (λ e. omega arith))
-
-or_false : (b : Bool) → (b || false) ≡ b
-or_false true = refl
-or_false false = refl
-
-not_twice : (b s : Bool) → not b ≡ s → b ≡ not s
-not_twice true s e = ap not e
-not_twice false s e = ap not e
-
-number_of : (x : Float) (s : Bool) (a c : ℕ) → HasValue x s a c → T (not (is_nan x))
-unfolding is_nan
-number_of nan s a c v = absurd v
-number_of (inf t) s a c v = absurd v
-number_of (fin t m e) s a c v = tt
 
 module _ {s : Bool} {u f : Float} {n m : ℕ} (facts : Split s u f n m) where
   abbrev l : ℕ
@@ -81,32 +66,28 @@ module _ {s : Bool} {u f : Float} {n m : ℕ} (facts : Split s u f n m) where
   L = pow_pos (low binary64)
 
   zero_number : T (not (is_nan f0))
-  zero_number = number_of f0 false 0 l (nought_value l)
+  zero_number = T_from_false (is_nan f0) (value_number f0 false 0 l (zero_over l))
 
   -- 0 ≤ u where v ≥ 0
   pub zero_up : le f0 u ≡ not s
-  zero_up = not_twice (le f0 u) s (sym (float_lt_total u f0 (number_of u s U l facts.u_value) zero_number) ∙ facts.side)
+  zero_up = sym (not-not (le f0 u)) ∙ ap not (sym (float_lt_total u f0 (T_from_false (is_nan u) (value_number u s U l facts.u_value)) zero_number) ∙ facts.side)
 
   -- u ≤ 0 where v < 0
   pub zero_down : le u f0 ≡ s
   zero_down =
-      le_at u f0 s U false 0 l L facts.u_value (nought_value l)
+      le_at u f0 s U false 0 l L facts.u_value (zero_over l)
       ∙ ap (λ (b : Bool). below s U false 0 || b) (some_units U (lt_of_lt_of_le L (one_and_more n facts.rest l facts.least)) (beq s false || eqb U 0))
-      ∙ or_false (below s U false 0)
-      ∙ sym (lt_at u f0 s U false 0 l L facts.u_value (nought_value l))
+      ∙ or-false (below s U false 0)
+      ∙ sym (lt_at u f0 s U false 0 l L facts.u_value (zero_over l))
       ∙ facts.side
 
 -- ---- the fraction
-
-never : (b : Bool) → T (not (b && false))
-never true = tt
-never false = tt
 
 -- no units have no sign
 no_minus_zero : (s : Bool) (r : ℕ) → T (not ((s && ltb 0 r) && eqb r 0))
 no_minus_zero true zero = tt
 no_minus_zero false zero = tt
-no_minus_zero s (suc r) = rw (ne_eqb (suc r) 0 (λ e. omega arith)) (never (s && ltb 0 (suc r)))
+no_minus_zero s (suc r) = rw (ne_eqb (suc r) 0 (λ e. omega arith)) (T_from_false ((s && ltb 0 (suc r)) && false) (and-false (s && ltb 0 (suc r))))
 
 less_zero : (x : Float) (s : Bool) (a c : ℕ) → 0 < c → T (fits binary64 x) → HasValue x s a c → x ⊖ fin false 0 (pos 0) ≡ x
 unfolding neg

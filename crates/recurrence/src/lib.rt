@@ -9,6 +9,7 @@ use floats::Function;
 use order::{Adjacent, Rung, Sequence};
 
 // Rung k from the two below it.
+#[tactic(auto, using(crate::specs::Recurrence::Open::step_laws))]
 pub fn step(sequence: Sequence, k: Rung, two: Adjacent) -> f64
     ensures { result ≡ step sequence.function sequence.below sequence.x sequence.f k two.low two.high }
 {
@@ -29,13 +30,15 @@ pub fn step(sequence: Sequence, k: Rung, two: Adjacent) -> f64
 }
 
 // Whether rung 2 is x times rung 1: V below 0, at f = 0.
+#[tactic(auto, using(crate::specs::Recurrence::Open::rung_two_laws))]
 pub fn has_own_rung_two(sequence: Sequence) -> bool
     ensures { result ≡ own_rung_two sequence.function sequence.below sequence.f }
 {
-    matches!(sequence.function, Function::V) && sequence.below && sequence.f == 0.0
+    sequence.function == Function::V && sequence.below && sequence.f == 0.0
 }
 
 // Rung 2 from rungs 0 and 1.
+#[tactic(auto, using(crate::specs::Recurrence::Open::rung_two_laws))]
 pub fn rung_two(sequence: Sequence, two: Adjacent) -> f64
     ensures { result
         ≡ next_rung sequence.function sequence.below sequence.x sequence.f 2 two.low two.high }
@@ -48,6 +51,7 @@ pub fn rung_two(sequence: Sequence, two: Adjacent) -> f64
 }
 
 // Rung k from the two above it. A match, since which function it is a state says at run time.
+#[tactic(auto, using(crate::specs::Recurrence::Open::step_laws))]
 pub fn step_down(sequence: Sequence, k: Rung, two: Adjacent) -> f64
     ensures { result ≡ step_down sequence.function sequence.x sequence.f k two.low two.high }
 {

@@ -2,8 +2,8 @@
 -- q = high * 2 ^ 26 + low neither difference has wrapped where it is small, so the remainder radicand * 2 ^ 52 - q ^ 2 is exact.
 use Rattle.std.proofs.Common.{◌≡◌, ℕ, zero, suc, ◌+◌, ◌-◌, ◌*◌, ◌/◌, ◌%◌, ◌^◌, ◌<◌, ◌≤◌, sym, ap, ◌∙◌, subst, inl, inr}
 use Rattle.std.proofs.Common.{mul-le-mul, arith, ltb, lt-ltb, le-ltb, Bool, true, false}
-use Rattle.floats.proofs.Tests.{lt_or_ge}
 use Rattle.std.specs.Int.{from_bool}
+use Rattle.std.proofs.lemmas.Bool.{cases_lt}
 use Rattle.roots.specs.Steps.{NearestWhole}
 use Rattle.roots.proofs.RootRounding.{nearest_between}
 
@@ -32,11 +32,8 @@ pub remainder_is : (radicand q first second : ℕ) → radicand < 2 ^ 54 - 1 →
     → second * 2 ^ 27 + 2 ^ 52 - q % 2 ^ 26 * (q % 2 ^ 26) + q * q ≡ radicand * 2 ^ 52 + 2 ^ 56
 remainder_is radicand q first second h l e f d s =
     go (q * q) (q / 2 ^ 26 * (q / 2 ^ 26)) (q / 2 ^ 26 * (q % 2 ^ 26)) (q % 2 ^ 26 * (q % 2 ^ 26)) (square q (q / 2 ^ 26) (q % 2 ^ 26) (omega arith))
-    (plain _ _ e (omega (arith, high_square q l))) (plain _ _ d (omega (arith, mixed_product q l))) (low_square q)
+    (omega (arith, high_square q l)) (omega (arith, mixed_product q l)) (low_square q)
   where
-    plain : (a b : ℕ) → a % 2 ^ 64 ≡ b → a < 2 ^ 64 → a ≡ b
-    plain a b e h = omega arith
-
     go : (qq hh hl ll : ℕ) → qq ≡ hh * 2 ^ 52 + hl * 2 ^ 27 + ll → first + hh ≡ radicand + 2 ^ 30 → second + (hl + 36028796515647488) ≡ first * 2 ^ 25 → ll ≤ 2 ^ 52
         → second * 2 ^ 27 + 2 ^ 52 - ll + qq ≡ radicand * 2 ^ 52 + 2 ^ 56
     go qq hh hl ll a b c d = omega arith
@@ -53,12 +50,12 @@ pub certified : (radicand q remainder i j : ℕ) → 2 ^ 52 ≤ radicand → rad
     → 2 ^ 56 + 3 ≤ remainder + 3 * q → remainder ≤ 2 ^ 56 + 2 + 3 * q
     → LessDigit (2 ^ 56 + q) remainder i → LessDigit (remainder + q) (2 ^ 56 + 1) j → NearestWhole radicand (q + i - j)
 certified radicand zero remainder i j l h e a b o p = absurd (omega arith)
-certified radicand (suc q) remainder i j l h e a b o p = elim (lt_or_ge (2 ^ 56 + suc q) remainder) [
+certified radicand (suc q) remainder i j l h e a b o p = elim (cases_lt (2 ^ 56 + suc q) remainder) [
   | inl k ↦
       let u = o.one k in
       let v = p.none (omega arith) in
       at (suc (suc q)) (omega arith) (omega arith) (omega arith)
-  | inr k ↦ elim (lt_or_ge (remainder + suc q) (2 ^ 56 + 1)) [
+  | inr k ↦ elim (cases_lt (remainder + suc q) (2 ^ 56 + 1)) [
     | inl g ↦
         let u = o.none k in
         let v = p.one g in

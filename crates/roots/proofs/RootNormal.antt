@@ -1,14 +1,15 @@
 -- The digits of a float at 53 places: a subnormal's are moved up, and any other pattern has them.
 use Rattle.std.proofs.Common.{◌≡◌, ℕ, zero, suc, ◌+◌, ◌-◌, ◌*◌, ◌/◌, ◌%◌, ◌^◌, ◌<◌, ◌≤◌, sym, refl, ap, ◌∙◌, subst}
-use Rattle.std.proofs.Common.{mul_assoc, arith, pow-add, inl, inr, pow_mono, pow_pos, mul-le-mul_right}
+use Rattle.std.proofs.Common.{arith, pow-add, inl, inr, pow_mono, pow_pos, mul-le-mul_right}
 use Rattle.std.proofs.Common.{mul-lt-mul_of_pos_right}
 use Rattle.std.specs.Int.Count.{count_leading_zeros, leading_top}
-use Rattle.floats.proofs.Tests.{lt_or_ge}
+use Rattle.std.proofs.lemmas.Bool.{cases_lt}
+use Rattle.floats.proofs.Powers.{shl_shl}
 use Rattle.roots.specs.Steps.{fields_magnitude, magnitude, Normal}
 
 -- a fraction has from 1 to 52 digits, and is moved up by the rest of 53
 pub zeros_before : (fraction : ℕ) → 0 < fraction → fraction < 2 ^ 52 → 11 ≤ count_leading_zeros 64 fraction
-zeros_before fraction p h = let t = leading_top 64 fraction p (omega arith) in elim (lt_or_ge t.0 52) [
+zeros_before fraction p h = let t = leading_top 64 fraction p (omega arith) in elim (cases_lt t.0 52) [
   | inl k ↦ omega (arith, t.1)
   | inr k ↦ let g : 2 ^ 52 ≤ 2 ^ t.0 = pow_mono k in absurd (omega (arith, t.2))
 ]
@@ -28,7 +29,7 @@ moved_up fraction exponent p h e = let t = leading_top 64 fraction p (omega arit
         subst (λ (k : ℕ). fraction * 2 ^ shift < k) (sym (pow-add 2 (suc j) shift) ∙ ap (λ (k : ℕ). 2 ^ k) q) (mul-lt-mul_of_pos_right b (pow_pos shift)) in
         let plain : fraction * 2 ^ shift % 18446744073709551616 ≡ fraction * 2 ^ shift = omega arith in
         rw plain (record {
-          value = mul_assoc fraction (2 ^ shift) (2 ^ exponent) ∙ ap (λ (k : ℕ). fraction * k) (sym (pow-add 2 shift exponent) ∙ ap (λ (k : ℕ). 2 ^ k) r);
+          value = shl_shl fraction shift exponent ∙ ap (λ (k : ℕ). fraction * 2 ^ k) r;
           least = least;
           most = most;
           room = omega arith;
@@ -46,8 +47,7 @@ normal_pattern pattern p h = go (pattern / 2 ^ 52) (pattern % 2 ^ 52) p (omega a
     go : (field fraction : ℕ) → ¬ (field ≡ 0) → field < 2047 → fraction < 2 ^ 52 → Normal (fields_magnitude field fraction) (2 ^ 52 + fraction) (field + 52)
     go zero fraction p h f = absurd (p refl)
     go (suc field) fraction p h f = record {
-      value = ap (λ (k : ℕ). (2 ^ 52 + fraction) * 2 ^ k) (omega arith) ∙ ap (λ (k : ℕ). (2 ^ 52 + fraction) * k) (pow-add 2 field 53)
-          ∙ sym (mul_assoc (2 ^ 52 + fraction) (2 ^ field) (2 ^ 53));
+      value = ap (λ (k : ℕ). (2 ^ 52 + fraction) * 2 ^ k) (omega arith) ∙ sym (shl_shl (2 ^ 52 + fraction) field 53);
       least = omega arith;
       most = omega arith;
       room = omega arith;

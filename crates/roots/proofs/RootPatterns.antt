@@ -2,14 +2,15 @@
 -- is made of the root's exponent and significand.
 use Rattle.std.proofs.Common.{◌≡◌, ℕ, zero, suc, ◌+◌, ◌-◌, ◌*◌, ◌/◌, ◌%◌, ◌^◌, ◌<◌, ◌≤◌, Bool, true, false, cond, not}
 use Rattle.std.proofs.Common.{T, eqb, pos, sym, refl, ap, ◌∙◌, subst, inl, inr, lt_irrefl, mod-eq_of_lt, eq-or-lt_of_le}
-use Rattle.std.proofs.Common.{mul-pos, zero-mul, mul-one, mul-div_cancel, arith, pow_pos, le-ltb, ne_eqb, le-leb}
+use Rattle.std.proofs.Common.{mul-pos, mul-one, mul-div_cancel, arith, pow_pos, le-ltb, ne_eqb, le-leb}
 use Rattle.std.specs.Float.{Float, nan, inf, fin, binary64}
 use Rattle.std.specs.Float.Ieee.{down, up, odd, of_fields, of_bits, to_bits, fits, nan_bits, is_nan}
 use Rattle.std.specs.Float.Ieee.Exact.{HasValue, odd_sign}
 use Rattle.std.proofs.Math.Nat.{mod-le}
 use Rattle.std.specs.Float.Ieee.Bits.{of_bits-to_bits, to_bits-lt, nan_bits_above}
 use Rattle.std.specs.Float.Ieee.Fits.{down_pos}
-use borrow.Author.Tests.{lt-leb}
+use Rattle.std.proofs.lemmas.Bool.{lt-leb}
+use Rattle.floats.proofs.Arithmetic.{digits_pos}
 use Rattle.signs.proofs.Signs.{nan_is, no_number}
 use Rattle.floats.specs.Operations.{bits, f0}
 use Rattle.roots.specs.SquareRoot.{square_root, root_of_units}
@@ -21,8 +22,7 @@ use Rattle.roots.specs.Steps.{fields_magnitude, magnitude, RootPattern}
 pub root_of_value : (x : Float) (s : Bool) (n : ℕ) → HasValue x s n (2 ^ 1074) → 0 < n → square_root x ≡ cond s nan (root_of_units n)
 root_of_value nan s n v p = absurd v
 root_of_value (inf t) s n v p = absurd v
-root_of_value (fin t zero e) s n v p =
-    absurd (lt_irrefl 0 (subst (λ (k : ℕ). 0 < k) (sym v.1 ∙ ap (λ (k : ℕ). k * 2 ^ 1074) (zero-mul (up e)) ∙ zero-mul (2 ^ 1074)) (mul-pos p (down_pos e))))
+root_of_value (fin t zero e) s n v p = absurd (lt_irrefl 0 (digits_pos 0 e n (2 ^ 1074) p v.1))
 root_of_value (fin t (suc m) e) s n v p =
     square_root_finite t m e
     ∙ ap (λ (b : Bool). cond b nan (root_of_units (suc m * up e * 2 ^ 1074 / down e))) v.0

@@ -6,8 +6,8 @@ use Rattle.std.proofs.Common.{add-one, arith, lit<, eqb→eq, leb→le}
 use Rattle.std.specs.Float.Ieee.{nearest}
 use Rattle.std.proofs.Math.Nat.{one-le-pow}
 use Rattle.std.proofs.Math.Dec.{is_le, compare_is_eq, nleb→lt}
+use Rattle.std.proofs.lemmas.Bool.{cases_lt}
 use Prim.Native.Nat.{compare, Ordering}
-use Rattle.floats.proofs.Tests.{lt_or_ge}
 use Rattle.roots.specs.SquareRoot.{whole_root, rounded_root}
 use Rattle.roots.specs.SquareRoot.Open.{rounded_root_is}
 use Rattle.roots.specs.Steps.{WholeRoot, NearestWhole}
@@ -79,7 +79,7 @@ module _ (x : ℕ) (large : 2 ^ 104 ≤ x) (small : x ≤ 2 ^ 106 - 2 ^ 53) wher
   rounded c = go (whole_root x) (whole_root_law x)
     where
       go : (q : ℕ) → IsRoot x q → Rounded x (rounded_root (x * 4 ^ c) c)
-      go q r = elim (lt_or_ge (q * q + q) x) [
+      go q r = elim (cases_lt (q * q + q) x) [
         | inl h ↦
             let a = root_least q r in
             let b = up_most q h in
@@ -107,7 +107,7 @@ module _ (radicand root : ℕ) (large : 2 ^ 52 ≤ radicand) (small : radicand <
 pub nearest_between : (radicand r : ℕ) → 2 ^ 52 ≤ radicand → radicand < 2 ^ 54 - 1 → r * r < radicand * 2 ^ 52 + r → radicand * 2 ^ 52 ≤ r * r + r
     → NearestWhole radicand r
 nearest_between radicand zero l h a b = absurd (omega arith)
-nearest_between radicand (suc p) l h a b = elim (lt_or_ge (radicand * 2 ^ 52) (suc p * suc p)) [
+nearest_between radicand (suc p) l h a b = elim (cases_lt (radicand * 2 ^ 52) (suc p * suc p)) [
   | inl k ↦ rw add-one at (nearest_above radicand p l h (record { least = omega arith; next = omega arith }) (omega arith))
   | inr k ↦ nearest_below radicand (suc p) l h (record { least = k; next = omega arith }) b
 ]

@@ -1,20 +1,20 @@
 -- The scale of a root: n * 2 ^ 1074 is radicand * 2 ^ 52 * 4 ^ c, a number of 105 or 106 digits with 2 * c zeros behind it, so the definition drops c digits
 -- of the root. At an even exponent the radicand is twice the significand.
 use Rattle.std.proofs.Common.{◌≡◌, ℕ, zero, suc, ◌+◌, ◌-◌, ◌*◌, ◌/◌, ◌%◌, ◌^◌, ◌<◌, ◌≤◌, false, sym, refl, ap, ◌∙◌}
-use Rattle.std.proofs.Common.{subst, le_trans, le_of_eq, lt_of_lt_of_le, lt_irrefl, mul-le-mul_right, mul_assoc}
-use Rattle.std.proofs.Common.{mul-lt-mul_of_pos_right, one-mul, lt_of_not-le, mul-one, mul_right_comm, arith, lit≤}
-use Rattle.std.proofs.Common.{pow_mono, pow-add}
+use Rattle.std.proofs.Common.{subst, le_trans, mul-le-mul_right, mul_assoc}
+use Rattle.std.proofs.Common.{mul-lt-mul_of_pos_right, one-mul, mul-one, mul_right_comm, arith, lit≤}
+use Rattle.std.proofs.Common.{pow-add, lt_of_le_of_lt}
 use Rattle.std.specs.Float.Ieee.{size, odd}
-use Rattle.std.proofs.Math.Nat.{mul-mul-mul_comm, pow-succ'}
 use Rattle.std.specs.Float.Ieee.Digits.{size-lt, size-le}
+use Rattle.std.proofs.lemmas.Nat.{mul-pow}
+use Rattle.floats.proofs.Powers.{pow_lt_back, shl_shl}
 use Rattle.roots.specs.SquareRoot.{rounded_root, dropped_digits, root_of_units}
 use Rattle.roots.specs.SquareRoot.Open.{dropped_digits_is, root_of_units_is}
 use Rattle.roots.specs.Steps.{Normal, NearestWhole, RootPattern}
 use Rattle.roots.proofs.RootRounding.{four_pos}
 
 pub four_pow : (c : ℕ) → 4 ^ c ≡ 2 ^ c * 2 ^ c
-four_pow zero = refl
-four_pow (suc c) = rw (pow-succ' 4 c, pow-succ' 2 c, four_pow c) (sym (mul-mul-mul_comm 2 (2 ^ c) 2 (2 ^ c)))
+four_pow c = mul-pow 2 2 c
 
 shifted : (k c : ℕ) → 2 ^ k * 4 ^ c ≡ 2 ^ (k + (c + c))
 shifted k c = rw (pow-add 2 k (c + c), pow-add 2 c c, four_pow c)
@@ -27,8 +27,7 @@ drops x c l h = dropped_digits_is (x * 4 ^ c) ∙ half (size (x * 4 ^ c)) more l
     less = size-le (x * 4 ^ c) (106 + (c + c)) (subst (λ (y : ℕ). x * 4 ^ c < y) (shifted 106 c) (mul-lt-mul_of_pos_right h (four_pos c)))
 
     more : 104 + (c + c) < size (x * 4 ^ c)
-    more = lt_of_not-le (λ (g : size (x * 4 ^ c) ≤ 104 + (c + c)).
-        lt_irrefl (x * 4 ^ c) (lt_of_lt_of_le (size-lt (x * 4 ^ c)) (le_trans (pow_mono g) (le_trans (le_of_eq (sym (shifted 104 c))) (mul-le-mul_right (4 ^ c) l)))))
+    more = pow_lt_back (104 + (c + c)) (size (x * 4 ^ c)) (subst (λ (y : ℕ). y < 2 ^ size (x * 4 ^ c)) (shifted 104 c) (lt_of_le_of_lt (mul-le-mul_right (4 ^ c) l) (size-lt (x * 4 ^ c))))
 
     half : (k : ℕ) → 104 + (c + c) < k → k ≤ 106 + (c + c) → (k + 1) / 2 - 53 ≡ c
     half k a b = omega arith
@@ -67,36 +66,26 @@ module _ (n significand exponent : ℕ) (m : Normal n significand exponent) wher
   scaled radicand c e = sym (
       mul_right_comm radicand (2 ^ 52) (4 ^ c)
       ∙ ap (λ (k : ℕ). k * 2 ^ 52)
-      (e
-      ∙ ap (λ (k : ℕ). significand * k) (pow-add 2 exponent 969)
-      ∙ sym (mul_assoc significand (2 ^ exponent) (2 ^ 969))
-      ∙ ap (λ (k : ℕ). k * 2 ^ 969) m.value
-      ∙ mul_assoc n (2 ^ 53) (2 ^ 969))
+      (e ∙ sym (shl_shl significand exponent 969) ∙ ap (λ (k : ℕ). k * 2 ^ 969) m.value ∙ mul_assoc n (2 ^ 53) (2 ^ 969))
       ∙ mul_assoc n (2 ^ 1022) (2 ^ 52))
 
   even_scale : exponent % 2 ≡ 0 → Scale n (significand * 2) ((exponent + 969) / 2)
   even_scale h = let c = (exponent + 969) / 2 in record {
     value = scaled (significand * 2) c
-        (mul_assoc significand 2 (4 ^ c) ∙ ap (λ (k : ℕ). significand * k) (shifted 1 c) ∙ ap (λ (k : ℕ). significand * 2 ^ k) (odd_sum h));
+        (mul_assoc significand 2 (4 ^ c) ∙ ap (λ (k : ℕ). significand * k) (shifted 1 c) ∙ ap (λ (k : ℕ). significand * 2 ^ k) (omega arith));
     least = omega (arith, m.least);
     most = omega (arith, m.most);
     room = omega (arith, m.room);
   }
-    where
-      odd_sum : exponent % 2 ≡ 0 → 1 + ((exponent + 969) / 2 + (exponent + 969) / 2) ≡ exponent + 969
-      odd_sum h = omega arith
 
   odd_scale : ¬ (exponent % 2 ≡ 0) → Scale n significand ((exponent + 969) / 2)
   odd_scale h = let c = (exponent + 969) / 2 in record {
     value = scaled significand c
-        (ap (λ (k : ℕ). significand * k) (sym (one-mul (4 ^ c)) ∙ shifted 0 c) ∙ ap (λ (k : ℕ). significand * 2 ^ k) (even_sum h));
+        (ap (λ (k : ℕ). significand * k) (sym (one-mul (4 ^ c)) ∙ shifted 0 c) ∙ ap (λ (k : ℕ). significand * 2 ^ k) (omega arith));
     least = m.least;
     most = omega (arith, m.most);
     room = omega (arith, m.room);
   }
-    where
-      even_sum : ¬ (exponent % 2 ≡ 0) → 0 + ((exponent + 969) / 2 + (exponent + 969) / 2) ≡ exponent + 969
-      even_sum h = omega arith
 
   pub parity_scale : Scale n (significand * (2 - exponent % 2)) ((exponent + 969) / 2)
   parity_scale = go (exponent % 2) refl

@@ -2,7 +2,7 @@
 -- there the root is rounded, and its middle with each other float is compared with it.
 use Rattle.std.proofs.Common.{◌≡◌, ℕ, zero, suc, ◌+◌, ◌-◌, ◌*◌, ◌/◌, ◌%◌, ◌^◌, ◌<◌, ◌≤◌, Bool, true, false, T, sym}
 use Rattle.std.proofs.Common.{refl, ap, ◌∙◌, subst, le_trans, le_of_eq, le_refl, lt_of_lt_of_le, lt_of_le_of_lt}
-use Rattle.std.proofs.Common.{le_of_lt, lt_irrefl, mul-le-mul_right, mul_assoc, mul-le-mul, mul-lt-mul_of_pos_right}
+use Rattle.std.proofs.Common.{le_of_lt, lt_irrefl, mul-le-mul_right, mul-le-mul, mul-lt-mul_of_pos_right}
 use Rattle.std.proofs.Common.{mul-pos, lt_of_not-le, zero-mul, arith, pow_pos, pow_mono, pow-add}
 use Rattle.std.specs.Float.{Float, binary64}
 use Rattle.std.specs.Float.Ieee.{size, fits}
@@ -10,6 +10,8 @@ use Rattle.std.specs.Float.Ieee.Exact.{HasValue, odd_sign}
 use Rattle.std.proofs.Math.Nat.{eq_of_mul-eq-mul_right}
 use Rattle.std.specs.Float.Ieee.Digits.{size-lt, size_reaches, size-le}
 use Rattle.std.specs.Float.Ieee.Fits.{odd-fits}
+use Rattle.std.proofs.Math.Arith.{lt-one}
+use Rattle.floats.proofs.Powers.{shl_shl}
 use Rattle.floats.proofs.Values.{value_finite, cross}
 use Rattle.floats.proofs.Rounding.{on_grid}
 use Rattle.roots.specs.SquareRoot.{square_root, rounded_root, root_of_units}
@@ -41,29 +43,20 @@ digits y s n h v =
 module _ (n q j d : ℕ) (is : size q ≡ suc d) (value : n ≡ q * 2 ^ j) (room : n < 2 ^ 2098) (few : d < 53) where
   to_53 : q * 2 ^ (52 - d) * 2 ^ (j + suc d) ≡ n * 2 ^ 53
   to_53 =
-      mul_assoc q (2 ^ (52 - d)) (2 ^ (j + suc d))
-      ∙ ap (λ (k : ℕ). q * k) (sym (pow-add 2 (52 - d) (j + suc d)) ∙ ap (λ (k : ℕ). 2 ^ k) (sum few) ∙ pow-add 2 j 53)
-      ∙ sym (mul_assoc q (2 ^ j) (2 ^ 53))
+      shl_shl q (52 - d) (j + suc d)
+      ∙ ap (λ (k : ℕ). q * 2 ^ k) (omega arith)
+      ∙ sym (shl_shl q j 53)
       ∙ ap (λ (k : ℕ). k * 2 ^ 53) (sym value)
-    where
-      sum : d < 53 → 52 - d + (j + suc d) ≡ j + 53
-      sum h = omega arith
 
   least_53 : 2 ^ 52 ≤ q * 2 ^ (52 - d)
   least_53 =
-      le_trans (le_of_eq (ap (λ (k : ℕ). 2 ^ k) (sum few) ∙ pow-add 2 d (52 - d)))
+      le_trans (le_of_eq (ap (λ (k : ℕ). 2 ^ k) {x = 52} (omega arith) ∙ pow-add 2 d (52 - d)))
       (mul-le-mul_right (2 ^ (52 - d)) (size_reaches q d (subst (λ (k : ℕ). d < k) (sym is) (le_refl (suc d)))))
-    where
-      sum : d < 53 → 52 ≡ d + (52 - d)
-      sum h = omega arith
 
   most_53 : q * 2 ^ (52 - d) < 2 ^ 53
   most_53 =
       lt_of_lt_of_le (mul-lt-mul_of_pos_right (subst (λ (k : ℕ). q < 2 ^ k) is (size-lt q)) (pow_pos (52 - d)))
-      (le_of_eq (sym (pow-add 2 (suc d) (52 - d)) ∙ ap (λ (k : ℕ). 2 ^ k) (sum few)))
-    where
-      sum : d < 53 → suc d + (52 - d) ≡ 53
-      sum h = omega arith
+      (le_of_eq (sym (pow-add 2 (suc d) (52 - d)) ∙ ap (λ (k : ℕ). 2 ^ k) {y = 53} (omega arith)))
 
   normal : Normal n (q * 2 ^ (52 - d)) (j + suc d)
   normal = record {
@@ -74,15 +67,12 @@ module _ (n q j d : ℕ) (is : size q ≡ suc d) (value : n ≡ q * 2 ^ j) (room
         (lt_of_lt_of_le (mul-lt-mul_of_pos_right room (pow_pos 53)) (le_trans (mul-le-mul least_53 (pow_mono g)) (le_of_eq to_53))));
   }
 
-none : (k : ℕ) → k < 1 → k ≡ 0
-none k h = omega arith
-
 normal_of : (n : ℕ) → 0 < n → Digits n → (m : ℕ) × (h : ℕ) × Normal n m h
 normal_of n p f = go (size f.significand) refl (size-le f.significand 53 f.few)
   where
     go : (d : ℕ) → size f.significand ≡ d → d ≤ 53 → (m : ℕ) × (h : ℕ) × Normal n m h
     go zero e h =
-        let z = none f.significand (subst (λ (d : ℕ). f.significand < 2 ^ d) e (size-lt f.significand)) in
+        let z = lt-one (subst (λ (d : ℕ). f.significand < 2 ^ d) e (size-lt f.significand)) in
         absurd (lt_irrefl 0 (subst (λ (k : ℕ). 0 < k) (f.value ∙ ap (λ (k : ℕ). k * 2 ^ f.exponent) z ∙ zero-mul (2 ^ f.exponent)) p))
     go (suc d) e h = (f.significand * 2 ^ (52 - d), f.exponent + suc d, normal n f.significand f.exponent d e f.value f.room h)
 
@@ -102,10 +92,7 @@ module _ (n radicand c : ℕ) (s : Scale n radicand c) where
       go l h = rounded x (omega arith) (omega arith) c
 
   in_range : q * 2 ^ c < 2 ^ 2098
-  in_range = lt_of_lt_of_le (mul-lt-mul_of_pos_right near.most (pow_pos c)) (le_trans (le_of_eq (sym (pow-add 2 53 c))) (pow_mono (sum s.room)))
-    where
-      sum : c < 1534 → 53 + c ≤ 2098
-      sum h = omega arith
+  in_range = lt_of_lt_of_le (mul-lt-mul_of_pos_right near.most (pow_pos c)) (le_trans (le_of_eq (sym (pow-add 2 53 c))) (pow_mono {j = 2098} (omega (arith, s.room))))
 
   root_nearest : NearestRoot (root_of_units n) n
   root_nearest = rw (root_at_scale n radicand c s) (record {

@@ -7,17 +7,19 @@
 // 67108864 is 2^26, 33554432 is 2^25, 134217728 is 2^27, 1073741824 is 2^30, 2147483648 is 2^31, 4503599627370496 is
 // 2^52, 72057594037927936 is 2^56, and 36028796515647488 is 2^55 - 2^29 + 2^25.
 
-ghost use Rattle.std.specs.Prelude.{◌-◌, ◌^◌, ◌<◌, ◌≤◌, IfSome};
+ghost use Rattle.std.specs.Prelude.{◌^◌, ◌<◌, IfSome};
 ghost use Rattle.roots.specs.Steps.{NearestWhole};
 
+use crate::Radicand;
+
 // The whole number nearest to the root of radicand * 2^52, where the guess is at most 1 off; none for any other guess.
-pub(crate) fn certified_root(radicand: u64, guess: u64) -> Option<u64>
-    requires { (2 ^ 52 ≤ radicand) × (radicand < 2 ^ 54 - 1) × (guess < 2 ^ 54) }
-    ensures { IfSome result (λ r. NearestWhole radicand r) }
+pub(crate) fn certified_root(radicand: Radicand, guess: u64) -> Option<u64>
+    requires { guess < 2 ^ 54 }
+    ensures { IfSome result (λ r. NearestWhole radicand.value r) }
 {
     let high = guess / 67108864;
     let low = guess % 67108864;
-    let first = (radicand + 1073741824).wrapping_sub(high * high);
+    let first = (radicand.value + 1073741824).wrapping_sub(high * high);
     if first >= 2147483648 {
         return None;
     }

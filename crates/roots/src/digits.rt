@@ -1,8 +1,9 @@
 // The root of radicand * 2^52 digit by digit: its 53 binary digits are found one by one, and the last is rounded by the
 // remainder.
 
-ghost use Rattle.std.specs.Prelude.{◌-◌, ◌^◌, ◌<◌, ◌≤◌};
 ghost use Rattle.roots.specs.Steps.{Partial, NextDigit, WholeRoot, NearestWhole};
+
+use crate::Radicand;
 
 // The digits of the radicand still to come, the root of those passed, and what its square leaves of them.
 #[derive(Clone, Copy)]
@@ -35,12 +36,11 @@ fn next_digit(s: Digits) -> Digits
 }
 
 // The whole root of radicand * 2^52, of 53 digits, and its remainder.
-fn root_digits(radicand: u64) -> Digits
-    requires { radicand < 2 ^ 54 }
-    ensures { WholeRoot radicand result.root result.remainder }
+fn root_digits(radicand: Radicand) -> Digits
+    ensures { WholeRoot radicand.value result.root result.remainder }
 {
     let mut s = Digits {
-        rest: radicand,
+        rest: radicand.value,
         root: 0,
         remainder: 0,
     };
@@ -52,9 +52,8 @@ fn root_digits(radicand: u64) -> Digits
 
 // The whole number nearest to the root of radicand * 2^52, which is above root + 1/2 exactly where the remainder is
 // above root.
-pub(crate) fn nearest_by_digits(radicand: u64) -> u64
-    requires { (2 ^ 52 ≤ radicand) × (radicand < 2 ^ 54 - 1) }
-    ensures { NearestWhole radicand result }
+pub(crate) fn nearest_by_digits(radicand: Radicand) -> u64
+    ensures { NearestWhole radicand.value result }
 {
     let d = root_digits(radicand);
     if d.root < d.remainder {

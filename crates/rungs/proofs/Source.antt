@@ -3,31 +3,28 @@ use Rattle.std.proofs.Common.{◌≡◌, refl, sym, ap, ◌∙◌, subst, Bool, 
 use Rattle.std.proofs.Common.{arith, T, ℤ, pos, neg_ℤ, nat_abs}
 use Rattle.std.specs.Float.Ieee.{Float, nan, inf, fin, neg, lt, le, of_bits, of_int, to_signed}
 use Rattle.std.specs.Float.Ieee.Bits.{is_false}
-use Rattle.floats.specs.Operations.{◌⊕◌, ◌⊖◌, float, whole, decimal, f0, f1, f¼_is}
+use Rattle.floats.specs.Operations.{◌⊕◌, float, whole, decimal, f0, f1, f¼_is}
 use Rattle.floats.specs.Facts.{signed_int}
 use Rattle.floats.proofs.Comparison.{float_lt_total, lt_no_nan}
 use Rattle.signs.specs.Signs.{absolute}
 use Rattle.start_sums_small.specs.SmallSums.{vvsa}
 use Rattle.start_sums_large.specs.Constants.{root_two_over_pi_is}
 use Rattle.start_sums_large.specs.StartSums.{vvla}
-use Rattle.floats.specs.declared.Function.{Function}
-use Rattle.floats.specs.declared.Function.TheVariants.{D, «V»}
+use Rattle.floats.specs.declared.Function.TheVariants.{«V»}
 use Rattle.order.specs.Order.{below, shifted, fraction_of, top_rung, num}
 use Rattle.order.specs.Facts.{InRange, Split}
 use Rattle.order.proofs.Facts.{split_facts, whole_part_signed}
 use Rattle.order.proofs.Laws.{joined_below}
 use Rattle.order.proofs.Tests.{cut_above, cut_below, one_or_more, zero_up, zero_down, fraction_plus_zero, fraction_less_zero}
-use Rattle.recurrence.specs.Recurrence.{own_rung_two, step_down}
+use Rattle.recurrence.specs.Recurrence.{step_down}
 use Rattle.recurrence.proofs.Laws.{own_rung_two_D, own_rung_two_V_above, own_rung_two_V_below, next_rung_is}
 use Rattle.branches.specs.Constants.{f7·5, f7·5_is}
 use Rattle.branches.proofs.Laws.{V_scaled}
 use Rattle.order.specs.declared.Sequence.{Sequence}
 use Rattle.rungs.specs.Constants.{f5·8_is}
-use Rattle.rungs.specs.Rungs.{start_sum, start_value, starts_gaussian, next_order, start_rungs, rung, descent, top_rungs, downward_rung, seed, raw_rung}
-use Rattle.rungs.specs.Rungs.Open.{start_sum_D_small, start_sum_D_large, start_sum_V_small, start_sum_V_large, small_limit_D, small_limit_V}
-use Rattle.rungs.specs.Rungs.Open.{start_value_is, next_order_above, next_order_below, top_orders_D, top_orders_V, top_rungs_is}
-use Rattle.rungs.specs.Rungs.Open.{gaussian_is, growth_is, starts_gaussian_D_above, starts_gaussian_D_below, starts_gaussian_V, start_rungs_is}
-use Rattle.rungs.specs.Source.{sequence, SideOfShifted, StartLoops, top_of_d, TopOfD, TopOfV, StartValues, started_at, StartRungs}
+use Rattle.rungs.specs.Rungs.{start_value, top_rungs, seed, raw_rung}
+use Rattle.rungs.specs.Rungs.Open.{start_laws}
+use Rattle.rungs.specs.Source.{sequence, SideOfShifted, StartLoops, top_of_d, TopOfD, TopOfV, StartValues, StartRungs}
 use Rattle.rungs.specs.Source.{ForwardColumn, DownwardColumn, ScaledColumn, Columns, AsSource}
 use Rattle.rungs.proofs.Laws.{rungs_zero_one, rung_two, own_rung_two_law, rung_step, descent_above, descent_top, descent_step}
 use Rattle.rungs.proofs.Laws.{downward_rung_law, raw_rung_law, scaled_rung_law, value_forward, value_downward, value_scaled, derivative_at_law}
@@ -49,13 +46,11 @@ module _ (v : Float) (r : InRange v) where
   }
 
   start_loops : StartLoops v
-  start_loops =
-      let f = fraction_of v in
-      record {
-        turns = facts.least;
-        up = (fraction_plus_zero facts, ap (λ (w : Float). f ⊕ w) one_is ∙ sym (next_order_above f));
-        down = (fraction_less_zero facts, ap (λ (w : Float). f ⊖ w) one_is ∙ sym (next_order_below f));
-      }
+  start_loops = record {
+    turns = facts.least;
+    up = (fraction_plus_zero facts, grind (arith, start_laws, one_is));
+    down = (fraction_less_zero facts, grind (arith, start_laws, one_is));
+  }
 
 -- ---- the top rungs
 
@@ -76,34 +71,22 @@ module _ (v x : Float) (r : InRange v) where
 
   top_of_D : below v ≡ true → TopOfD v x
   top_of_D s =
-      let u = shifted v in
-      let f = fraction_of v in
       let n = top_rung v in
       let facts = on_side true s in
-      let same : neg (whole n) ⊕ f ≡ top_of_d v = joined_below facts ∙ sym top_is in
+      let same = joined_below facts ∙ sym top_is in
       record {
         kept = λ e. not_zero n facts.least (sym (whole_part_signed v r ∙ ap (λ (b : Bool). signed_int b n) s) ∙ e);
         slot = ap (λ (w : Float). to_signed 31 (neg w)) top_is ∙ cut_below facts;
-        rungs =
-            top_rungs_is (sequence D (below v) x f) u n
-            ∙ ap (λ (o : Float × Float). (start_sum D false x o.0, start_sum D false x o.1)) (top_orders_D u f n)
-            ∙ ap (λ (w : Float). (start_sum D false x (w ⊕ f1), start_sum D false x w)) same
-            ∙ rw (start_sum_D_small x (top_of_d v ⊕ f1), start_sum_D_small x (top_of_d v));
+        rungs = grind (arith, start_laws);
       }
 
   top_of_V : below v ≡ false → TopOfV v x
   top_of_V s =
-      let u = shifted v in
-      let f = fraction_of v in
-      let n = top_rung v in
       let facts = on_side false s in
       record {
         kept = one_or_more facts;
         slot = cut_above facts;
-        rungs =
-            top_rungs_is (sequence «V» (below v) x f) u n
-            ∙ ap (λ (o : Float × Float). (start_sum «V» false x o.0, start_sum «V» false x o.1)) (top_orders_V u f n)
-            ∙ rw (start_sum_V_small x (u ⊖ f1), start_sum_V_small x u);
+        rungs = grind (arith, start_laws);
       }
 
 -- ---- start values
@@ -123,32 +106,25 @@ beyond x t =
 
 start_values : (s : Bool) (x f va : Float) → StartValues s x f va
 start_values s x f va = record {
-  d = rw (start_value_is (sequence D s x f) va, small_limit_D, start_sum_D_small x va, start_sum_D_large x va, f5·8_is);
+  d = grind (arith, start_laws, f5·8_is);
   v = by_size;
   v_scaled = λ u e. by_size ∙ rw (← f7·5_is, beyond x (subst T (sym (V_scaled s x u e)) tt));
 }
   where
     by_size : start_value (sequence «V» s x f) va ≡ cond (le (absolute x) (decimal 75 1)) (vvsa x va) (vvla x va)
-    by_size = rw (start_value_is (sequence «V» s x f) va, small_limit_V, start_sum_V_small x va, start_sum_V_large x va, f7·5_is)
+    by_size = grind (arith, start_laws, f7·5_is)
 
 -- ---- start rungs
 
-module _ (x f : Float) where
-  -- by start values at two orders, where both tests of `start_rungs` fail
-  summed : (fn : Function) (s : Bool) → starts_gaussian fn s f ≡ false → own_rung_two fn s f ≡ false
-      → start_rungs (sequence fn s x f) ≡ started_at (sequence fn s x f) f (next_order s f)
-  summed fn s a b = rw (start_rungs_is (sequence fn s x f), a, b)
-
-  start_rungs_of : StartRungs x f
-  start_rungs_of = record {
-    d_gaussian = λ e. rw (start_rungs_is (sequence D false x f), starts_gaussian_D_above f, e, gaussian_is x, ← f¼_is);
-    d_up = λ e. summed D false (starts_gaussian_D_above f ∙ e) (own_rung_two_D false f) ∙ rw (next_order_above f);
-    d_down = summed D true (starts_gaussian_D_below f) (own_rung_two_D true f) ∙ rw (next_order_below f);
-    v_own =
-        λ e. rw (start_rungs_is (sequence «V» true x f), starts_gaussian_V true f, own_rung_two_V_below f, e, growth_is x, ← f¼_is, ← root_two_over_pi_is);
-    v_down = λ e. summed «V» true (starts_gaussian_V true f) (own_rung_two_V_below f ∙ e) ∙ rw (next_order_below f);
-    v_up = summed «V» false (starts_gaussian_V false f) (own_rung_two_V_above f) ∙ rw (next_order_above f);
-  }
+start_rungs_of : (x f : Float) → StartRungs x f
+start_rungs_of x f = record {
+  d_gaussian = λ e. grind (arith, start_laws, f¼_is);
+  d_up = λ e. grind (arith, start_laws, own_rung_two_D);
+  d_down = grind (arith, start_laws, own_rung_two_D);
+  v_own = λ e. grind (arith, start_laws, own_rung_two_V_below, f¼_is, root_two_over_pi_is);
+  v_down = λ e. grind (arith, start_laws, own_rung_two_V_below);
+  v_up = grind (arith, start_laws, own_rung_two_V_above);
+}
 
 -- ---- the columns
 
@@ -156,9 +132,7 @@ forward_column_of : (r : Sequence) → ForwardColumn r
 forward_column_of r = record {
   first = sym (rungs_zero_one r);
   own_two = λ own. sym (own_rung_two_law r own);
-  two = λ other.
-      sym (rung_two r)
-      ∙ rw (next_rung_is r.function r.below r.x r.f 2 (rung r 0) (rung r 1), other);
+  two = λ other. let turn = rung_two r in grind (arith, next_rung_is);
   each = λ k h. sym (rung_step r k h);
 }
 
@@ -166,13 +140,12 @@ downward_column_of : (r : Sequence) (u : Float) (n : ℕ) → 1 ≤ n → Downwa
 downward_column_of r u n h =
     let low = (top_rungs r u n).0 in
     let high = (top_rungs r u n).1 in
-    let above : n ≡ n - 1 + 1 = omega arith in
-    let at : (k : ℕ) → downward_rung r u n k ≡ descent r (n - 1) low high k = downward_rung_law r u n in
-    let lower : downward_rung r u n (n - 1) ≡ low = at (n - 1) ∙ descent_top r (n - 1) low high in
-    let upper : downward_rung r u n n ≡ high = at n ∙ ap (descent r (n - 1) low high) above ∙ descent_above r (n - 1) low high in
+    let at = downward_rung_law r u n in
+    let lower = descent_top r (n - 1) low high in
+    let upper = descent_above r (n - 1) low high in
     record {
-      top = ap (λ (a : Float). (a, downward_rung r u n n)) lower ∙ ap (λ (b : Float). (low, b)) upper;
-      each = λ k b. rw (at k, at (k + 1), at (k + 2)) (sym (descent_step r (n - 1) low high k (omega arith)));
+      top = grind arith;
+      each = λ k b. let below = descent_step r (n - 1) low high k (omega arith) in grind arith;
     }
 
 module _ (r : Sequence) (n : ℕ) where
@@ -180,22 +153,13 @@ module _ (r : Sequence) (n : ℕ) where
   low = raw_rung_law r n (n + 101) ∙ descent_top r (n + 101) (seed r.function) f0
 
   high : raw_rung r n (n + 102) ≡ f0
-  high =
-      let e : n + 102 ≡ n + 101 + 1 = omega arith in
-      raw_rung_law r n (n + 102) ∙ ap (descent r (n + 101) (seed r.function) f0) e ∙ descent_above r (n + 101) (seed r.function) f0
+  high = let above = descent_above r (n + 101) (seed r.function) f0 in grind (arith, raw_rung_law)
 
   each : (k : ℕ) → k ≤ n + 100 → raw_rung r n k ≡ step_down r.function r.x r.f k (raw_rung r n (k + 1)) (raw_rung r n (k + 2))
-  each k h =
-      rw (raw_rung_law r n k, raw_rung_law r n (k + 1), raw_rung_law r n (k + 2))
-      (sym (descent_step r (n + 101) (seed r.function) f0 k (omega arith)))
+  each k h = let below = descent_step r (n + 101) (seed r.function) f0 k (omega arith) in grind (arith, raw_rung_law)
 
   first : raw_rung r n (n + 100) ≡ step_down r.function r.x r.f (n + 100) (seed r.function) f0
-  first =
-      let a : n + 100 + 1 ≡ n + 101 = omega arith in
-      let b : n + 100 + 2 ≡ n + 102 = omega arith in
-      each (n + 100) (omega arith)
-      ∙ ap (λ (w : Float). step_down r.function r.x r.f (n + 100) w (raw_rung r n (n + 100 + 2))) (ap (raw_rung r n) a ∙ low)
-      ∙ ap (λ (w : Float). step_down r.function r.x r.f (n + 100) (seed r.function) w) (ap (raw_rung r n) b ∙ high)
+  first = let turn = each (n + 100) (omega arith) in grind (arith, low, high)
 
   scaled_column : ScaledColumn r n
   scaled_column = record { low = low; high = high; first = first; each = each; scaled = scaled_rung_law r n }

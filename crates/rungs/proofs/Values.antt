@@ -2,6 +2,8 @@
 -- computed steps.
 use Rattle.std.proofs.Common.{◌≡◌, sym, ap, ◌∙◌, ℕ, suc, ◌+◌, arith, true, false}
 use Rattle.std.specs.Float.Ieee.{Float, add, mul, neg, le, eq, of_bits}
+use Rattle.std.specs.Float.{nan}
+use Rattle.floats.proofs.Examples.{entry_of}
 use Rattle.floats.specs.Operations.{◌⊗◌, decimal, f0, f1}
 use Rattle.signs.specs.Signs.{absolute}
 use Rattle.exponential.proofs.Laws.{exp_zero, exp_minus_zero}
@@ -12,7 +14,7 @@ use Rattle.recurrence.specs.Recurrence.{step, next_rung}
 use Rattle.derivatives.specs.Derivatives.{derivative}
 use Rattle.recurrence.proofs.Laws.{own_rung_two_D, own_rung_two_V_below, next_rung_is}
 use Rattle.derivatives.proofs.Laws.{derivative_V_below}
-use Rattle.recurrence.proofs.Values.{at}
+use Rattle.recurrence.specs.Recurrence.Examples.{examples_hold}
 use Rattle.order.specs.declared.Sequence.{Sequence}
 use Rattle.rungs.specs.Rungs.{start_value, start_rungs, rung}
 use Rattle.rungs.specs.Rungs.Open.{start_sum_V_small, small_limit_V, start_value_is, gaussian_is, growth_is, starts_gaussian_D_above, starts_gaussian_V, start_rungs_is}
@@ -37,25 +39,24 @@ pub D_rung_1 : rung d_at_zero 1 ≡ f0
 D_rung_1 = ap (λ (r : Float × Float). r.1) (sym both ∙ d_start)
 
 -- a step from known values
-step_to_law : (k : ℕ) (a b : Float) → rung d_at_zero k ≡ a → rung d_at_zero (suc k) ≡ b → next_rung D false f0 f0 (k + 2) a b ≡ rung d_at_zero (k + 2)
-step_to_law k a b ea eb =
-    let e : suc (suc k) ≡ k + 2 = omega arith in
-    rw (← ea, ← eb) (rung_next d_at_zero k ∙ ap (rung d_at_zero) e)
+pub step_to_law : (k : ℕ) (a b : Float) → rung d_at_zero k ≡ a → rung d_at_zero (suc k) ≡ b → next_rung D false f0 f0 (k + 2) a b ≡ rung d_at_zero (k + 2)
+step_to_law k a b ea eb = let turn = rung_next d_at_zero k in grind (arith)
 
-plain : (k : ℕ) (a b : Float) → next_rung D false f0 f0 k a b ≡ step D false f0 f0 k a b
-plain k a b = rw (next_rung_is D false f0 f0 k a b, own_rung_two_D false f0)
+-- a rung from the two below it
+above : (k : ℕ) (a b c : Float) → rung d_at_zero k ≡ a → rung d_at_zero (suc k) ≡ b → step D false f0 f0 (k + 2) a b ≡ c → rung d_at_zero (k + 2) ≡ c
+above k a b c ea eb ec = let turn = rung_next d_at_zero k in grind (arith, next_rung_is, own_rung_two_D)
 
 pub D_rung_2 : rung d_at_zero 2 ≡ neg f1
-D_rung_2 = sym (step_to_law 0 f1 f0 D_rung_0 D_rung_1) ∙ plain 2 f1 f0 ∙ at 0
+D_rung_2 = above 0 f1 f0 (neg f1) D_rung_0 D_rung_1 (entry_of examples_hold 0 nan)
 
 pub D_rung_3 : rung d_at_zero 3 ≡ neg f0
-D_rung_3 = sym (step_to_law 1 f0 (neg f1) D_rung_1 D_rung_2) ∙ plain 3 f0 (neg f1) ∙ at 1
+D_rung_3 = above 1 f0 (neg f1) (neg f0) D_rung_1 D_rung_2 (entry_of examples_hold 1 nan)
 
 pub D_rung_4 : rung d_at_zero 4 ≡ decimal 3 0
-D_rung_4 = sym (step_to_law 2 (neg f1) (neg f0) D_rung_2 D_rung_3) ∙ plain 4 (neg f1) (neg f0) ∙ at 2
+D_rung_4 = above 2 (neg f1) (neg f0) (decimal 3 0) D_rung_2 D_rung_3 (entry_of examples_hold 2 nan)
 
 pub D_rung_5 : rung d_at_zero 5 ≡ f0
-D_rung_5 = sym (step_to_law 3 (neg f0) (decimal 3 0) D_rung_3 D_rung_4) ∙ plain 5 (neg f0) (decimal 3 0) ∙ at 3
+D_rung_5 = above 3 (neg f0) (decimal 3 0) f0 D_rung_3 D_rung_4 (entry_of examples_hold 3 nan)
 
 -- ---- V below 0
 

@@ -10,6 +10,7 @@ pub use start::{seed, start_rungs, start_value, top_rungs};
 
 // The theorem that the values of a table are those of the source's text. The statement is specs/Source.antt, the proof
 // proofs/Source.antt.
+#[tactic(auto, using(crate::proofs::Source::as_source))]
 pub fn as_source()
     ensures { AsSource }
 {}

@@ -1,12 +1,14 @@
 // The values that the branches start from.
 
+#![tactic(auto, using(crate::specs::Rungs::Open::start_laws))]
+
 ghost use Rattle.std.specs.Prelude.{◌≡◌};
 ghost use Rattle.rungs.specs.Rungs.{small_limit, start_value, starts_gaussian, next_order, start_rungs};
 ghost use Rattle.rungs.specs.Rungs.{top_rungs, seed};
 
 use exponential::exp;
 use floats::Function;
-use order::{Adjacent, Rung, Sequence};
+use order::{Adjacent, Rungs, Sequence};
 use recurrence::has_own_rung_two;
 use signs::abs;
 use start_sums_large::{SQRT_FRAC_2_PI, dvla, vvla};
@@ -40,7 +42,7 @@ pub fn start_value(sequence: Sequence, va: f64) -> f64
 fn starts_gaussian(sequence: Sequence) -> bool
     ensures { result ≡ starts_gaussian sequence.function sequence.below sequence.f }
 {
-    matches!(sequence.function, Function::D) && !sequence.below && sequence.f == 0.0
+    sequence.function == Function::D && !sequence.below && sequence.f == 0.0
 }
 
 // The order of rung 1, by the side, which is a field.
@@ -76,9 +78,10 @@ pub fn start_rungs(sequence: Sequence) -> Adjacent
 }
 
 // Rungs n - 1 and n of the downward branches.
-pub fn top_rungs(sequence: Sequence, u: f64, n: Rung) -> Adjacent
-    ensures { (result.low, result.high) ≡ top_rungs sequence u n }
+pub fn top_rungs(rungs: Rungs) -> Adjacent
+    ensures { (result.low, result.high) ≡ top_rungs rungs.sequence rungs.u rungs.n }
 {
+    let Rungs { sequence, u, n } = rungs;
     let Sequence { function, x, f, .. } = sequence;
     match function {
         Function::D => {

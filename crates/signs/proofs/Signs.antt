@@ -9,6 +9,7 @@ use Rattle.std.specs.Float.Ieee.Compare.{differs_from_itself}
 use Rattle.std.specs.Float.Ieee.Fits.{neg-fits}
 use Rattle.signs.specs.Signs.{alike, absolute, infinite, sign_of}
 use Rattle.floats.specs.Operations.{bits, f0, f1}
+pub use Rattle.floats.proofs.Values.{nan_is}
 
 -- ---- NaN and the infinities
 
@@ -31,10 +32,6 @@ infinity_is = refl
 pub negative_infinity_is : bits 0xfff0_0000_0000_0000 ≡ inf true
 unfolding of_bits
 negative_infinity_is = refl
-
-pub nan_is : bits 0x7ff8_0000_0000_0000 ≡ nan
-unfolding of_bits
-nan_is = refl
 
 pub infinite_plus : (x : Float) → eq x (inf false) ≡ true → infinite x ≡ true
 unfolding eq infinite
@@ -105,7 +102,7 @@ unfolding of_bits to_bits
 sign_cleared_inf true = refl
 sign_cleared_inf false = refl
 
-absolute_no_nan : (x : Float) → is_nan x ≡ false → T (not (is_nan (absolute x)))
+pub absolute_no_nan : (x : Float) → is_nan x ≡ false → T (not (is_nan (absolute x)))
 unfolding absolute is_nan
 absolute_no_nan nan h = cc
 absolute_no_nan (inf s) h = tt

@@ -1,10 +1,9 @@
-// What a float is, beside its value: its sign, whether it is NaN or an infinity, whether two are alike. Each function
-// answers every f64.
+// What a float is, beside its value: its sign, whether it is an infinity, whether two are alike. Each function answers
+// every f64.
 
 #![tactic(auto)]
 
 ghost use Rattle.std.specs.Prelude.{◌≡◌};
-ghost use Rattle.std.specs.Float.Ieee.{is_nan};
 ghost use Rattle.signs.specs.Signs.{alike, absolute, infinite, sign_of};
 
 // The highest bit of a pattern, which is set below 0 and at -0.
@@ -33,13 +32,6 @@ pub fn alike(a: f64, b: f64) -> bool
     } else {
         !b.is_nan() && a.to_bits() == b.to_bits()
     }
-}
-
-// Whether x is NaN.
-pub fn is_nan(x: f64) -> bool
-    ensures { result ≡ is_nan x }
-{
-    x.is_nan()
 }
 
 // Whether x is one of the two infinities.

@@ -6,7 +6,7 @@ use Rattle.std.proofs.Math.Logic.{⊎_elim}
 use Rattle.std.proofs.Math.Nat.{eq-or-lt_of_le, le_of_suc-le-suc, not-suc-le-zero}
 use Rattle.std.proofs.Math.Seq.{take-set-le, ext_get_or}
 use Rattle.std.proofs.lemmas.List.{set-append_left, set-append_right}
-use Rattle.floats.proofs.Tests.{lt_or_ge}
+use Rattle.std.proofs.lemmas.Bool.{cases_lt}
 use Rattle.slots.specs.Slots.{filled}
 
 module _ {A : Type 0} (value : ℕ → A) (from at : ℕ) where
@@ -79,7 +79,7 @@ module _ {A : Type 0} (d : A) (value : ℕ → A) (from at n : ℕ) (t l : List 
   pub filled_by_slots : ((i : ℕ) → i < n → get_or t (at + i) d ≡ value (from + i)) → ((k : ℕ) → (k < at) ⊎ (at + n ≤ k) → get_or t k d ≡ get_or l k d)
       → t ≡ filled value from at n l
   filled_by_slots ins outs =
-      ext_get_or d t (filled value from at n l) (long ∙ sym (length_filled value from at n l)) (λ k h. at_slot ins outs k (lt_or_ge k at) (lt_or_ge k (at + n)))
+      ext_get_or d t (filled value from at n l) (long ∙ sym (length_filled value from at n l)) (λ k h. at_slot ins outs k (cases_lt k at) (cases_lt k (at + n)))
 
 -- one more slot at the front, as a loop that counts down writes it
 pub filled_before : {A : Type 0} (d : A) (value : ℕ → A) (k n : ℕ) (l : List A) → k + 1 + n ≤ length l
@@ -88,7 +88,7 @@ filled_before d value k n l fits =
     let t = filled value (k + 1) (k + 1) n l in
     let long : length t ≡ length l = length_filled value (k + 1) (k + 1) n l in
     filled_by_slots d value k k (n + 1) (set t k (value k)) l (length-set t k (value k) ∙ long) (omega arith)
-    (λ i b. at_front i b (lt_or_ge 0 i))
+    (λ i b. at_front i b (cases_lt 0 i))
     (λ j q. get_or-set_other t k j (value k) d (λ e. ⊎_elim (λ b. omega arith) (λ a. omega arith) q) ∙ filled_out value (k + 1) (k + 1) n l d j (⊎_elim (λ b. inl (omega arith)) (λ a. inr (omega arith)) q))
   where
     at_front : (i : ℕ) → i < n + 1 → (0 < i) ⊎ (i ≤ 0) → get_or (set (filled value (k + 1) (k + 1) n l) k (value k)) (k + i) d ≡ value (k + i)
@@ -117,7 +117,7 @@ filled_under d value a b l h =
     let u = filled value a a b l in
     let e : length u ≡ length l = length_filled value a a b l in
     filled_by_slots d value 0 0 (a + b) (filled value 0 0 a u) l (length_filled value 0 0 a u ∙ e) (omega arith)
-    (λ i p. in_either i p (lt_or_ge i a))
+    (λ i p. in_either i p (cases_lt i a))
     (λ k q. ⊎_elim (λ p. absurd (not-suc-le-zero p)) (λ p. filled_out value 0 0 a u d k (inr (omega arith)) ∙ filled_out value a a b l d k (inr (omega arith))) q)
   where
     in_either : (i : ℕ) → i < a + b → (i < a) ⊎ (a ≤ i) → get_or (filled value 0 0 a (filled value a a b l)) (0 + i) d ≡ value (0 + i)

@@ -4,7 +4,7 @@
 -- The definitions of the two are shut: other crates cannot unfold them. What they may know of them are the contracts.
 pub mod Open
 pub mod Examples
-use Rattle.std.specs.Prelude.{ℕ, false, cond, Float}
+use Rattle.std.specs.Prelude.{◌≡◌, ℕ, false, cond, Float}
 use Rattle.std.specs.Float.Ieee.{lt, neg}
 use Rattle.floats.specs.Operations.{◌⊕◌, ◌⊖◌, ◌⊗◌, ◌⊘◌, whole, f0, f½, f1, f2, pi, f¼}
 use Rattle.signs.specs.Signs.{absolute}
@@ -16,19 +16,33 @@ use Rattle.gamma.specs.Gamma.{gamma2}
 use Rattle.start_sums_small.specs.SmallSums.{ep}
 use Rattle.start_sums_large.specs.Constants.{root_two_over_pi, expansion_epsilon}
 
+-- ---- the sum of an expansion
+
+-- "r = ..; pd += r; if (r / pd).abs() < eps { break; }", with r₀ and s₀ before it; `next` is the term at k by the one
+-- before it
+unfoldable pub expansion_turn : (Float → Float → Float) → ℕ → Float × Float → Turn (Float × Float)
+expansion_turn next k (r₀, s₀) =
+    let r = next (whole k) r₀ in
+    let s = s₀ ⊕ r in
+    (lt (absolute (r ⊘ s)) expansion_epsilon, (r, s))
+
+-- r and the sum after "for k in 1..=count"
+abbrev pub expansion_sum : (Float → Float → Float) → ℕ → Float × Float
+expansion_sum next count = count_up (expansion_turn next) count 1 (false, (f1, f1))
+
+-- a function with these results gives what `by` gives
+abbrev pub Computes : (Float → Float → Float → Type 0) → (Float → Float → Float) → Type 0
+Computes results by = (k r₀ r : Float) → results k r₀ r → r ≡ by k r₀
+
 -- ---- dvla: D for large arguments
 
--- term k of the expansion with (−1)^k (−va)(1 − va)…(2k − 1 − va) / (k! (2x²)^k), r₀ and pd₀ before it
-unfoldable pub dvla_turn : Float → Float → ℕ → Float × Float → Turn (Float × Float)
-dvla_turn x va k (r₀, pd₀) =
-    let kf = whole k in
-    let r = neg f½ ⊗ r₀ ⊗ (f2 ⊗ kf ⊖ va ⊖ f1) ⊗ (f2 ⊗ kf ⊖ va ⊖ f2) ⊘ (kf ⊗ x ⊗ x) in
-    let pd = pd₀ ⊕ r in
-    (lt (absolute (r ⊘ pd)) expansion_epsilon, (r, pd))
+-- the term with (−1)^k (−va)(1 − va)…(2k − 1 − va) / (k! (2x²)^k), r₀ being the one before it
+abbrev pub dvla_term : Float → Float → Float → Float → Float
+dvla_term x va kf r₀ = neg f½ ⊗ r₀ ⊗ (f2 ⊗ kf ⊖ va ⊖ f1) ⊗ (f2 ⊗ kf ⊖ va ⊖ f2) ⊘ (kf ⊗ x ⊗ x)
 
 -- r and pd after "for k in 1..=16"
 unfoldable pub dvla_sum : Float → Float → Float × Float
-dvla_sum x va = count_up (dvla_turn x va) 16 1 (false, (f1, f1))
+dvla_sum x va = expansion_sum (dvla_term x va) 16
 
 -- "pd *= a0" with "a0 = x.abs().powf(va) * ep" (DLMF 12.9.1)
 unfoldable pub dvla_expansion : Float → Float → Float
@@ -40,17 +54,13 @@ dvla_joined va pd vl = pi ⊗ vl ⊘ gamma2 (neg va) ⊕ cos (pi ⊗ va) ⊗ pd
 
 -- ---- vvla: V for large arguments
 
--- term k of the expansion with (va + 1)(va + 2)…(va + 2k) / (k! (2x²)^k), r₀ and pv₀ before it
-unfoldable pub vvla_turn : Float → Float → ℕ → Float × Float → Turn (Float × Float)
-vvla_turn x va k (r₀, pv₀) =
-    let kf = whole k in
-    let r = f½ ⊗ r₀ ⊗ (f2 ⊗ kf ⊕ va ⊖ f1) ⊗ (f2 ⊗ kf ⊕ va) ⊘ (kf ⊗ x ⊗ x) in
-    let pv = pv₀ ⊕ r in
-    (lt (absolute (r ⊘ pv)) expansion_epsilon, (r, pv))
+-- the term with (va + 1)(va + 2)…(va + 2k) / (k! (2x²)^k), r₀ being the one before it
+abbrev pub vvla_term : Float → Float → Float → Float → Float
+vvla_term x va kf r₀ = f½ ⊗ r₀ ⊗ (f2 ⊗ kf ⊕ va ⊖ f1) ⊗ (f2 ⊗ kf ⊕ va) ⊘ (kf ⊗ x ⊗ x)
 
 -- r and pv after "for k in 1..=18"
 unfoldable pub vvla_sum : Float → Float → Float × Float
-vvla_sum x va = count_up (vvla_turn x va) 18 1 (false, (f1, f1))
+vvla_sum x va = expansion_sum (vvla_term x va) 18
 
 -- "pv *= a0" with "a0 = x.abs().powf(-va - 1.0) * SQRT_FRAC_2_PI * qe" and "qe = (0.25 * x * x).exp()" (DLMF 12.9.2)
 unfoldable pub vvla_expansion : Float → Float → Float

@@ -12,7 +12,8 @@
 
 #![tactic(auto)]
 
-ghost use Rattle.std.specs.Prelude.{◌≡◌};
+ghost use Rattle.std.specs.Prelude.{◌≡◌, Float};
+ghost use Rattle.start_sums_large.specs.StartSums.{Computes, expansion_sum};
 ghost use Rattle.start_sums_large.specs.StartSums.{dvla_sum, dvla_expansion, dvla_joined, dvla, vvla_sum};
 ghost use Rattle.start_sums_large.specs.StartSums.{vvla_expansion, vvla_joined, vvla};
 
@@ -26,41 +27,41 @@ use trigonometric::{cos, sin};
 // The source's constant, under its name; the library has none.
 pub const SQRT_FRAC_2_PI: f64 = 0.7978845608028654;
 
-// The sum of D's expansion, of at most 16 terms after the first.
-// V's sum differs from it in the term and in how many there are; one sum over a closure is not tried yet.
-#[tactic(auto, using(floats::proofs::Loops::done), unfolding(crate::specs::StartSums::dvla_sum))]
+// The sum of an expansion, of at most `count` terms after the first. Term k is `next` of k and the term before it.
+fn expansion_sum<F: Fn(f64, f64) -> f64>(count: u32, next: F) -> f64
+    requires { F.IsAlwaysCallable next }
+    ensures { (by : Float → Float → Float) → Computes (F.post next) by → result ≡ (expansion_sum by count).1 }
+{
+    let mut r = 1.0;
+    let mut sum = 1.0;
+    for k in 1..=count {
+        r = next(f64::from(k), r);
+        sum += r;
+        if abs(r / sum) < 1e-12 {
+            return sum;
+        }
+    }
+    sum
+}
+
+// The sum of D's expansion.
+#[tactic(auto, unfolding(crate::specs::StartSums::dvla_sum))]
 fn dvla_sum(x: f64, va: f64) -> f64
     ensures { result ≡ (dvla_sum x va).1 }
 {
-    let mut r = 1.0;
-    let mut pd = 1.0;
-    for k in 1..=16u32 {
-        let kf = f64::from(k);
-        r = -0.5 * r * (2.0 * kf - va - 1.0) * (2.0 * kf - va - 2.0) / (kf * x * x);
-        pd += r;
-        if abs(r / pd) < 1e-12 {
-            return pd;
-        }
-    }
-    pd
+    expansion_sum(16, |kf, r| {
+        -0.5 * r * (2.0 * kf - va - 1.0) * (2.0 * kf - va - 2.0) / (kf * x * x)
+    })
 }
 
-// The sum of V's expansion, of at most 18 terms after the first.
-#[tactic(auto, using(floats::proofs::Loops::done), unfolding(crate::specs::StartSums::vvla_sum))]
+// The sum of V's expansion.
+#[tactic(auto, unfolding(crate::specs::StartSums::vvla_sum))]
 fn vvla_sum(x: f64, va: f64) -> f64
     ensures { result ≡ (vvla_sum x va).1 }
 {
-    let mut r = 1.0;
-    let mut pv = 1.0;
-    for k in 1..=18u32 {
-        let kf = f64::from(k);
-        r = 0.5 * r * (2.0 * kf + va - 1.0) * (2.0 * kf + va) / (kf * x * x);
-        pv += r;
-        if abs(r / pv) < 1e-12 {
-            return pv;
-        }
-    }
-    pv
+    expansion_sum(18, |kf, r| {
+        0.5 * r * (2.0 * kf + va - 1.0) * (2.0 * kf + va) / (kf * x * x)
+    })
 }
 
 // D's expansion, for an argument of either sign.

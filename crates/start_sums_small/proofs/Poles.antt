@@ -1,13 +1,14 @@
 -- At the poles of Γ: where dvsa answers 0 (01, "Bottom rungs"), and what keeps 1e300, gamma2's answer there, out of V (01, "Slips").
 use Rattle.std.proofs.Common.{◌≡◌, refl, sym, ap, ◌∙◌, Bool, true, false, ◌&&◌, cond, ◌⊎◌, inl, inr, ℕ, zero, suc, ◌+◌}
 use Rattle.std.proofs.Common.{◌*◌, ◌%◌, ◌^◌, ◌≤◌, ◌<◌, arith, eqb, lit≤, ℤ, pos, neg_ℤ, nat_abs, Float, eq-eqb, lt-ltb}
+use Rattle.std.proofs.Common.{zero-lt-suc}
 use Rattle.std.specs.Float.{binary64}
 use Rattle.std.specs.Float.Ieee.{add, mul, neg, of_bits}
 use Rattle.std.specs.Float.Ieee.{eq}
 use Rattle.std.specs.Float.Ieee.Exact.{HasValue}
 use Rattle.std.specs.Float.Ieee.Scale.{round_same}
+use Rattle.std.proofs.lemmas.Bool.{cases_lt}
 use Rattle.floats.specs.Operations.{◌⊕◌, ◌⊖◌, ◌⊗◌, ◌⊘◌, float, whole, f0, f½, f1, f2}
-use Rattle.floats.proofs.Tests.{one, lt_or_ge}
 use Rattle.floats.proofs.Values.{zero_value, neg_value, of_int_pos, of_int_value}
 use Rattle.floats.proofs.Arithmetic.{mul_at}
 use Rattle.floats.proofs.Rounding.{round_neg}
@@ -27,11 +28,11 @@ use Rattle.start_sums_small.specs.SmallSums.Open.{dvsa_at_zero_law}
 pub pole_found : (y : Float) (n : ℕ) → n ≤ 2 ^ 31 → HasValue y true n 1 → is_pole y ≡ true
 unfolding is_pole of_bits
 pole_found y zero h v =
-    rw (le_at y f0 true 0 false 0 1 one v (zero_value 1), whole_to_i32 y 0 h v) (eq_at y (whole 0) true 0 false 0 1 one v (of_int_pos binary64 0 (lit≤ tt)))
+    rw (le_at y f0 true 0 false 0 1 (zero-lt-suc 0) v (zero_value 1), whole_to_i32 y 0 h v) (eq_at y (whole 0) true 0 false 0 1 (zero-lt-suc 0) v (of_int_pos binary64 0 (lit≤ tt)))
 pole_found y (suc k) h v =
     let p : suc k ≤ 2 ^ 53 = omega arith in
-    rw (le_at y f0 true (suc k) false 0 1 one v (zero_value 1), lt-ltb 0 (suc k + 0) (omega arith), whole_to_i32 y (suc k) h v)
-    (eq_at y (float (neg_ℤ (pos (suc k)))) true (suc k) true (suc k) 1 one v (of_int_value binary64 true (suc k) (omega arith) p) ∙ ap (λ (b : Bool). b && true) (eq-eqb (suc k) (suc k) refl))
+    rw (le_at y f0 true (suc k) false 0 1 (zero-lt-suc 0) v (zero_value 1), lt-ltb 0 (suc k + 0) (omega arith), whole_to_i32 y (suc k) h v)
+    (eq_at y (float (neg_ℤ (pos (suc k)))) true (suc k) true (suc k) 1 (zero-lt-suc 0) v (of_int_value binary64 true (suc k) (omega arith) p) ∙ ap (λ (b : Bool). b && true) (eq-eqb (suc k) (suc k) refl))
 
 -- dvsa(0, va) is 0 where 0.5·(1 − va) is a negative whole number from −2^31 on; at va = 1, where it is 0, see `dvsa_zero_one`
 pub dvsa_poles : (va : Float) (n : ℕ) → n ≤ 2 ^ 31 → HasValue (f½ ⊗ (f1 ⊖ va)) true n 1 → eq va f0 ≡ false → dvsa f0 va ≡ f0
@@ -45,7 +46,7 @@ abbrev pub fac_of : ℕ → Float
 fac_of m = cond (eqb (m % 2) 0) f1 (neg f1)
 
 even_or_odd : (m : ℕ) → (m % 2 ≡ 0) ⊎ (m % 2 ≡ 1)
-even_or_odd m = elim (lt_or_ge (m % 2) 1) [ inl h ↦ inl (omega arith) | inr h ↦ inr (omega arith) ]
+even_or_odd m = elim (cases_lt (m % 2) 1) [ inl h ↦ inl (omega arith) | inr h ↦ inr (omega arith) ]
 
 fac_turns : (m : ℕ) → neg (fac_of m) ≡ fac_of (m + 1)
 unfolding neg of_bits
@@ -83,8 +84,8 @@ half_is n h =
     let a : n * 2 ≤ 2 ^ 53 = omega arith in
     let two : 0 < 2 = omega arith in
     let half : HasValue (neg f½) true 1 2 = neg_value f½ false 1 2 (refl, refl) in
-    mul_at binary64 (neg f½) (whole (n * 2)) true 1 2 false (n * 2) 1 two one half (of_int_pos binary64 (n * 2) a)
-    ∙ round_same binary64 true (1 * (n * 2)) (2 * 1) n 1 two one (omega arith)
+    mul_at binary64 (neg f½) (whole (n * 2)) true 1 2 false (n * 2) 1 two (zero-lt-suc 0) half (of_int_pos binary64 (n * 2) a)
+    ∙ round_same binary64 true (1 * (n * 2)) (2 * 1) n 1 two (zero-lt-suc 0) (omega arith)
     ∙ sym (round_neg binary64 false n 1)
     ∙ ap neg (of_pos binary64 n)
 

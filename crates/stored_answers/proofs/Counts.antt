@@ -1,24 +1,34 @@
--- One more record passed.
-use Rattle.std.proofs.Common.{◌≡◌, ℕ, zero, suc, ◌+◌, ◌*◌, ◌≤◌, ◌<◌, Bool, true, false, List, [], take, drop, get_or}
-use Rattle.std.proofs.Common.{refl, arith, add-one}
+-- The records that differ, counted from the first on: the definition goes on at the last.
+use Rattle.std.proofs.Common.{◌≡◌, ℕ, zero, suc, ◌+◌, ◌*◌, Bool, true, false, not, cond, List, ◌∷◌, length, take, drop}
+use Rattle.std.proofs.Common.{refl, sym, ◌∙◌, ap, arith}
 use Rattle.std.proofs.lemmas.List.{drop-drop}
+use Rattle.std.specs.Int.{from_bool}
+use Rattle.std.specs.List.{filter}
 use Rattle.std.specs.Simd.{first_chunks}
 use Rattle.stored_records.specs.Words.{missed}
 use Rattle.stored_answers.specs.Answers.{held, differing}
 
-pub missed_few : (b : Bool) → missed b ≤ 1
-missed_few true = omega arith
-missed_few false = omega arith
+-- a `bool` as a number
+pub missed_is : (b : Bool) → from_bool (not b) ≡ missed b
+missed_is true = refl
+missed_is false = refl
 
--- chunk n of k
-pub chunk_at : (k n : ℕ) (s : List ℕ) → n < k → get_or (first_chunks 32 k s) n [] ≡ take 32 (drop (32 * n) s)
-chunk_at zero n s h = absurd (omega arith)
-chunk_at (suc k) zero s h = refl
-chunk_at (suc k) (suc n) s h =
-    let e : 32 + 32 * n ≡ 32 * suc n = omega arith in rw (← e, ← drop-drop (32 * n) 32 s) (chunk_at k n (drop 32 s) (omega arith))
-
--- d of the first n records differ, and l bytes are left over
-pub one_more : (s : List ℕ) (k n d l : ℕ) → n < k → d ≡ differing s n + l
-    → d + missed (held (get_or (first_chunks 32 k s) n [])) ≡ differing s (n + 1) + l
+-- the first record, and the k after it
+differing_first : (s : List ℕ) (k : ℕ) → differing s (suc k) ≡ missed (held (take 32 s)) + differing (drop 32 s) k
 unfolding differing
-one_more s k n d l h e = let f = chunk_at k n s h in rw (add-one, f) (omega arith)
+differing_first s zero = omega arith
+differing_first s (suc k) =
+    let e : differing s (suc k) ≡ missed (held (take 32 s)) + differing (drop 32 s) k = differing_first s k in
+    let place : 32 + 32 * k ≡ 32 * suc k = omega arith in
+    rw (e, ← place, ← drop-drop (32 * k) 32 s) (omega arith)
+
+length_more : (b : Bool) (x : List ℕ) (xs : List (List ℕ)) → length (cond (not b) (x ∷ xs) xs) ≡ missed b + length xs
+length_more true x xs = omega arith
+length_more false x xs = omega arith
+
+pub counted : (k : ℕ) (s : List ℕ) → length (filter (λ r. not (held r)) (first_chunks 32 k s)) ≡ differing s k
+unfolding differing
+counted zero s = refl
+counted (suc k) s =
+    let x = take 32 s in
+    length_more (held x) x _ ∙ ap (λ (n : ℕ). missed (held x) + n) (counted k (drop 32 s)) ∙ sym (differing_first s k)

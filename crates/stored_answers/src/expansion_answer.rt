@@ -5,6 +5,8 @@ ghost use Rattle.std.specs.Prelude.{◌≡◌};
 ghost use Rattle.stored_answers.specs.Expansion.{constant, sum_at, mantissa_at, series_at, expansion_answer};
 
 use crate::tables_answer::part_of;
+use answer::Pair;
+use mul_exp::Mantissas;
 
 // A mantissa or an exponent of a series is one of these.
 const CONSTANTS: [f64; 16] = [
@@ -58,15 +60,19 @@ fn mantissa_at(part: u64, v: f64, x: f64) -> f64
     }
 }
 
-// The refusal number, the value or the derivative of a series, whose c0, c1 and e are digits of n.
+// The refusal number, the value or the derivative of a series, whose mantissas and exponent are digits of n.
 #[tactic(auto, unfolding(crate::specs::Expansion::series_at))]
 fn series_at(n: u64, place: u64, a: f64, x: f64) -> f64
     ensures { result ≡ series_at n place a x }
 {
-    let c0 = constant(n / 65536);
-    let c1 = constant(n / 1048576);
-    let e = constant(n / 16777216);
-    part_of(maclaurin::maclaurin(a, x, c0, c1, e), place)
+    let start = Mantissas {
+        pair: Pair {
+            value: constant(n / 65536),
+            derivative: constant(n / 1048576),
+        },
+        exponent: constant(n / 16777216),
+    };
+    part_of(maclaurin::maclaurin(a, x, start), place)
 }
 
 // Number n at x and y.

@@ -10,7 +10,7 @@ pub fn answer_of(n: u64, x: f64, y: f64) -> f64
 {
     match n {
         1 => signs::abs(x),
-        2 => f64::from(signs::is_nan(x)),
+        2 => f64::from(x.is_nan()),
         3 => f64::from(signs::is_infinite(x)),
         4 => f64::from(truncation::to_i32(x)),
         5 => truncation::trunc(x),

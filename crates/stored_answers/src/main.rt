@@ -13,13 +13,12 @@ ghost use Rattle.std.specs.Prelude.{◌≡◌, ◌+◌, ◌/◌, length};
 ghost use Rattle.stored_answers.specs.Answers.{differing, left_over};
 
 use std::{fs, io};
-use stored_records::one_unless;
 
 // How many records were replayed, and how many of them differ.
 #[derive(Clone, Copy)]
 pub struct Tally {
-    pub records: u64,
-    pub differences: u64,
+    pub records: usize,
+    pub differences: usize,
 }
 
 // Every record of s, 32 bytes each. What is left over is no record and counts as a difference.
@@ -28,15 +27,11 @@ fn replay(s: &[u8]) -> Tally
     ensures counted { result.differences ≡ differing s.now (length s.now / 32) + left_over s.now }
 {
     let (records, rest) = s.as_chunks::<32>();
-    let mut tally = Tally {
-        records: 0,
-        differences: one_unless(rest.is_empty()),
-    };
-    for record in records {
-        tally.records += 1;
-        tally.differences += one_unless(replayed::is_alike(record));
+    let differing = records.iter().filter(|r| !replayed::is_alike(*r)).count();
+    Tally {
+        records: records.len(),
+        differences: differing + usize::from(!rest.is_empty()),
     }
-    tally
 }
 
 // Replays one file and prints its line. No contract can say what is read.

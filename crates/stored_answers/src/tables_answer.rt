@@ -10,7 +10,8 @@ ghost use Rattle.stored_answers.specs.Tables.{junk, part_of, place_after, with_j
 use answer::Answer;
 use floats::Function;
 
-// What slot k holds before a call.
+// What slot k holds before a call. A match, which the check takes as the definition's tests; with an array in its place
+// the goal `returns` stays open.
 #[tactic(auto, using(crate::proofs::Values::named_values), unfolding(crate::specs::Tables::junk))]
 fn junk(k: usize) -> f64
     ensures { result ≡ junk k }
@@ -45,7 +46,7 @@ fn slot_at(t: &[f64], k: usize) -> f64
 }
 
 // The refusal number, the value or the derivative of an answer.
-#[tactic(auto, using(crate::proofs::Values::named_values), unfolding(crate::specs::Tables::part_of, answer::specs::Answer::refusal_of, answer::specs::Answer::pair_of))]
+#[tactic(auto, using(crate::proofs::Values::answer_parts), unfolding(crate::specs::Tables::part_of))]
 pub fn part_of(a: Answer, place: u64) -> f64
     ensures { result ≡ (if nat_eq place 64 then whole (refusal_of a) else part_of (pair_of a) place) }
 {

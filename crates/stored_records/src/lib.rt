@@ -5,7 +5,7 @@
 
 ghost use Rattle.std.specs.Prelude.{◌≡◌, get_or};
 ghost use Rattle.floats.specs.Operations.{bits};
-ghost use Rattle.stored_records.specs.Words.{word_at, missed};
+ghost use Rattle.stored_records.specs.Words.{word_at};
 
 use std::array;
 use std::num::f64_from_bits_with_nan;
@@ -53,11 +53,4 @@ pub fn read_record(s: &[u8]) -> Record
         y: number(s, 16),
         answer: number(s, 24),
     }
-}
-
-// 1 where a test failed.
-pub fn one_unless(passed: bool) -> u64
-    ensures { result ≡ missed passed }
-{
-    u64::from(!passed)
 }

@@ -3,6 +3,7 @@ use Rattle.std.proofs.Common.{◌≡◌, refl, sym, ap, ◌∙◌, List, ◌++�
 use Rattle.std.proofs.Common.{inl, zero-add, arith, length, get_or, set, take, drop, length-drop}
 use Rattle.std.specs.Float.{nan}
 use Rattle.std.specs.Float.Ieee.{Float}
+use Rattle.std.proofs.lemmas.Bool.Decides.{nat_tests}
 use Rattle.std.proofs.lemmas.Bool.{true≢false, cond_both, eqb-true, eq-eqb}
 use Rattle.std.proofs.lemmas.List.{length-take, take-append-drop}
 use Rattle.floats.specs.Operations.{◌⊗◌}
@@ -15,9 +16,9 @@ use Rattle.rungs.specs.ColumnValues.{value, derivative_at}
 use Rattle.branches.proofs.Laws.{own_forward}
 use Rattle.rungs.proofs.Laws.{own_rung_two_law, value_forward, derivative_at_law}
 use Rattle.slots.specs.Slots.{filled, slot}
+use Rattle.slots.proofs.Filled.{length_filled, filled_more, filled_same, filled_out, filled_front, filled_back}
 use Rattle.value_column.specs.OverSlots.{derivative_over}
 use Rattle.value_column.specs.ValueColumn.{all_values}
-use Rattle.slots.proofs.Filled.{length_filled, filled_more, filled_same, filled_out, filled_front, filled_back}
 use Rattle.value_column.proofs.Branches.{slot_filled, all_values_law}
 use Rattle.ladder_columns.specs.Columns.{room_for, value_column, derivative_column}
 use Rattle.ladder_columns.proofs.Room.{room_for_law}
@@ -25,17 +26,6 @@ use Rattle.ladder_columns.proofs.Columns.{value_column_with_room, derivative_col
 use Rattle.table_columns.specs.TableColumns.{room_in, values_in, both_columns}
 use Rattle.table_columns.specs.TableColumns.Open.{both_columns_is, values_in_is}
 use Rattle.table_columns.proofs.Room.{table_room}
-
-module _ (r : Sequence) where
-  -- a turn of a loop over the derivatives, by the values in the same table, which are below slot num
-  pub derived_slot : (num n k : ℕ) (w : Float) (t l : List Float) → k < n → n < num → t ≡ filled (derivative_over r l) 0 num k l
-      → w ≡ derivative r.function r.below r.x r.f k (get_or t k nan) (get_or t (k + 1) nan) → set t (num + k) w ≡ filled (derivative_over r l) 0 num (k + 1) l
-  unfolding derivative_over slot
-  derived_slot num n k w t l h apart et er =
-      let d = derivative_over r l in
-      let low : get_or t k nan ≡ get_or l k nan = rw et (filled_out d 0 num k l nan k (inl (omega arith))) in
-      let high : get_or t (k + 1) nan ≡ get_or l (k + 1) nan = rw et (filled_out d 0 num k l nan (k + 1) (inl (omega arith))) in
-      rw (er, low, high, et) (rw zero-add at (filled_more d 0 num k l))
 
 -- value 2 of a branch that has its own, stored beside values 0 and 1
 own_two : (r : Sequence) (u : Float) (l l1 : List Float) → 2 < length l → own_rung_two r.function r.below r.f ≡ true → l1 ≡ filled (value r u 1) 0 0 2 l
@@ -47,17 +37,16 @@ own_two r u l l1 room own e1 =
     let two : r.x ⊗ v 1 ≡ v 2 = rw forward (own_rung_two_law r own) in
     rw (one, two, e1) (filled_more v 0 0 2 l)
 
-with_own_two : (r : Sequence) (u : Float) (n : ℕ) (l l1 : List Float) → 2 < length l → l1 ≡ filled (value r u n) 0 0 (n + 1) l
-    → cond (own_rung_two r.function r.below r.f && eqb n 1) (set l1 2 (r.x ⊗ slot l1 1)) l1 ≡ filled (value r u n) 0 0 (values_in r.function r.below r.f n) l
-with_own_two r u n l l1 room e1 = rw (values_in_is r.function r.below r.f n) (go (own_rung_two r.function r.below r.f) (eqb n 1) refl refl)
-  where
-    go : (own one : Bool) → own_rung_two r.function r.below r.f ≡ own → eqb n 1 ≡ one
-        → cond (own && one) (set l1 2 (r.x ⊗ slot l1 1)) l1 ≡ filled (value r u n) 0 0 (cond (own && one) 3 (n + 1)) l
-    go false one a b = e1
-    go true false a b = e1
-    go true true a b =
-        let e : n ≡ 1 = eqb-true n 1 b in
-        rw e (own_two r u l l1 room a (rw e at e1))
+module _ (r : Sequence) where
+  -- a turn of a loop over the derivatives, by the values in the same table, which are below slot num
+  pub derived_slot : (num n k : ℕ) (w : Float) (t l : List Float) → k < n → n < num → t ≡ filled (derivative_over r l) 0 num k l
+      → w ≡ derivative r.function r.below r.x r.f k (get_or t k nan) (get_or t (k + 1) nan) → set t (num + k) w ≡ filled (derivative_over r l) 0 num (k + 1) l
+  unfolding derivative_over slot
+  derived_slot num n k w t l h apart et er =
+      let d = derivative_over r l in
+      let low : get_or t k nan ≡ get_or l k nan = rw et (filled_out d 0 num k l nan k (inl (omega arith))) in
+      let high : get_or t (k + 1) nan ≡ get_or l (k + 1) nan = rw et (filled_out d 0 num k l nan (k + 1) (inl (omega arith))) in
+      rw (er, low, high, et) (rw zero-add at (filled_more d 0 num k l))
 
 -- between n + 1 and n + 2 values are written
 pub values_in_law : (fn : Function) (s : Bool) (f : Float) (n : ℕ) → (n + 1 ≤ values_in fn s f n) × (values_in fn s f n ≤ n + 2)
@@ -82,6 +71,18 @@ three_values fn s f n own one = rw (values_in_is fn s f n, own, eq-eqb n 1 one)
 
 pub plain_values : (fn : Function) (s : Bool) (f : Float) (n : ℕ) → own_rung_two fn s f ≡ false → values_in fn s f n ≡ n + 1
 plain_values fn s f n own = rw (values_in_is fn s f n, own)
+
+with_own_two : (r : Sequence) (u : Float) (n : ℕ) (l l1 : List Float) → 2 < length l → l1 ≡ filled (value r u n) 0 0 (n + 1) l
+    → cond (own_rung_two r.function r.below r.f && eqb n 1) (set l1 2 (r.x ⊗ slot l1 1)) l1 ≡ filled (value r u n) 0 0 (values_in r.function r.below r.f n) l
+with_own_two r u n l l1 room e1 = rw (values_in_is r.function r.below r.f n) (go (own_rung_two r.function r.below r.f) (eqb n 1) refl refl)
+  where
+    go : (own one : Bool) → own_rung_two r.function r.below r.f ≡ own → eqb n 1 ≡ one
+        → cond (own && one) (set l1 2 (r.x ⊗ slot l1 1)) l1 ≡ filled (value r u n) 0 0 (cond (own && one) 3 (n + 1)) l
+    go false one a b = e1
+    go true false a b = e1
+    go true true a b =
+        let e : n ≡ 1 = eqb-true n 1 b in
+        rw e (own_two r u l l1 room a (rw e at e1))
 
 module _ (r : Sequence) (u : Float) (n num : ℕ) (l : List Float) where
   -- what `fill_table` leaves where there is room, and where there is none
@@ -111,10 +112,10 @@ module _ (r : Sequence) (u : Float) (n num : ℕ) (l : List Float) where
       ∙ ap (filled (derivative_at r u n) 0 num n) values
       ∙ sym (both_filled room)
 
--- ---- the columns in the two halves of a table: v and d are the halves, and v1 and d1 what `fill_columns` leaves there
+-- ---- the columns in the two halves of a table: v1 and d1 are what `fill_columns` leaves there
 
-module _ (r : Sequence) (u : Float) (n num : ℕ) (l v d v1 d1 : List Float) (room : room_in n num (length l) ≡ true) (ev : v ≡ take num l)
-    (ed : d ≡ drop num l) (ev1 : v1 ≡ value_column r u n v (length d)) (ed1 : d1 ≡ derivative_column r u n (length v) d) where
+module _ (r : Sequence) (u : Float) (n num : ℕ) (l v1 d1 : List Float) (room : room_in n num (length l) ≡ true)
+    (ev1 : v1 ≡ value_column r u n (take num l) (length (drop num l))) (ed1 : d1 ≡ derivative_column r u n (length (take num l)) (drop num l)) where
   abbrev pub count : ℕ
   count = values_in r.function r.below r.f n
 
@@ -127,10 +128,10 @@ module _ (r : Sequence) (u : Float) (n num : ℕ) (l v d v1 d1 : List Float) (ro
       room_for_law n (length (take num l)) (length (drop num l)) w.0 w.1 (omega (arith, front_length)) (omega (arith, length-drop {A = Float}))
 
   front : v1 ≡ filled (value r u n) 0 0 (n + 1) (take num l)
-  front = ev1 ∙ rw (ev, ed) (value_column_with_room r u n (take num l) (length (drop num l)) columns)
+  front = ev1 ∙ value_column_with_room r u n (take num l) (length (drop num l)) columns
 
   back : d1 ≡ filled (derivative_at r u n) 0 0 n (drop num l)
-  back = ed1 ∙ rw (ev, ed) (derivative_column_with_room r u n (drop num l) (length (take num l)) columns)
+  back = ed1 ∙ derivative_column_with_room r u n (drop num l) (length (take num l)) columns
 
   pub halves_law : (v2 : List Float) → v2 ≡ filled (value r u n) 0 0 count (take num l) → v2 ++ d1 ≡ both_columns r u n num l
   halves_law v2 e =
@@ -159,3 +160,6 @@ module _ (r : Sequence) (u : Float) (n num : ℕ) (l v d v1 d1 : List Float) (ro
 
   pub without_two : (own_rung_two r.function r.below r.f && eqb n 1) ≡ false → v1 ++ d1 ≡ both_columns r u n num l
   without_two none = halves_law v1 (rw (values_in_is r.function r.below r.f n, none) front)
+
+-- what a table is, with room and without it, for `fill_table`
+pub ruleset table_cases = (table_room, both_left, with_two, without_two, nat_tests)

@@ -1,7 +1,8 @@
 -- D's rungs from order 0 on with no fraction, at x and at −x: by induction over the recurrence, and their derivatives.
-use Rattle.std.proofs.Common.{◌≡◌, refl, sym, ap, ◌∙◌, ◌⊎◌, inl, inr, ℕ, zero, suc, ◌+◌, add-one, Bool, true, false}
+use Rattle.std.proofs.Common.{◌≡◌, sym, ap, ◌∙◌, ◌⊎◌, inl, inr, ℕ, zero, suc, ◌+◌, add-one, Bool, true, false}
 use Rattle.std.proofs.Common.{not, T, Float}
 use Rattle.std.specs.Float.Ieee.{binary64, neg, eq}
+use Rattle.std.proofs.Math.Bool.{not-not}
 use Rattle.floats.specs.Operations.{◌⊕◌, ◌⊖◌, ◌⊗◌, whole, f0, f1, f¼}
 use Rattle.floats.specs.declared.Function.TheVariants.{D}
 use Rattle.floats.proofs.Opposites.{square_same}
@@ -19,10 +20,6 @@ use Rattle.rungs.proofs.Laws.{gaussian_is, gaussian_zero, gaussian_one, gaussian
 gaussian_same : (x y : Float) → (y ≡ neg x) ⊎ ((y ≡ x) × T (eq x f0)) → gaussian y ≡ gaussian x
 gaussian_same x y (inl e) = rw e (gaussian_is (neg x) ∙ ap exp (square_same binary64 (neg f¼) x) ∙ sym (gaussian_is x))
 gaussian_same x y (inr (e, z)) = ap gaussian e
-
-not_not : (s : Bool) → not (not s) ≡ s
-not_not true = refl
-not_not false = refl
 
 module _ (f : Float) (none : eq f f0 ≡ true) where
   -- rung k at an argument
@@ -48,7 +45,7 @@ module _ (f : Float) (none : eq f f0 ≡ true) where
     image_next : (k : ℕ) (s : Bool) → Image s k → Image (not s) (suc k) → Image (not (not s)) (suc (suc k))
     image_next k s low high =
         rw (later x k, later y k)
-        (difference (times_argument turned high) (rw (not_not s) (times (whole (k + 2) ⊕ f ⊖ f1) low)))
+        (difference (times_argument turned high) (rw (not-not s) (times (whole (k + 2) ⊕ f ⊖ f1) low)))
 
     images : (k : ℕ) → Image (odd k) k × Image (not (odd k)) (suc k)
     images zero = rw odd_zero (image_zero, image_one)

@@ -5,10 +5,9 @@ use Rattle.std.proofs.Math.Option.{some}
 use Rattle.std.specs.Float.Ieee.{nan, inf, fin, binary64, neg, eq, ne, fits, is_nan, of_bits}
 use Rattle.std.specs.Float.Ieee.Bits.{is_true, of_bits-fits}
 use Rattle.std.specs.Float.Ieee.Fits.{neg-fits}
+use Rattle.std.proofs.lemmas.Bool.{not-false, not-true, cases_lt}
 use Rattle.floats.specs.Operations.{f0}
 use Rattle.floats.specs.declared.Function.TheVariants.{D}
-use Rattle.floats.proofs.Booleans.{not_true, not_false}
-use Rattle.floats.proofs.Tests.{lt_or_ge}
 use Rattle.floats.proofs.Comparison.{eq_no_nan}
 use Rattle.mirror_images.specs.Images.{odd}
 use Rattle.mirror_images.proofs.Laws.{in_words}
@@ -25,7 +24,7 @@ use Rattle.rungs.proofs.Laws.{value_forward, derivative_at_law}
 use Rattle.slots.specs.Slots.{slot}
 use Rattle.tables.specs.Tables.{value_of, derivative_of, table_after, answer}
 use Rattle.tables.specs.Slots.{Slots}
-use Rattle.tables.proofs.Calls.{not_refused_long, value_is, derivative_is, values_of_D}
+use Rattle.tables.proofs.Calls.{not_refused_long, value_of_is, derivative_of_is, values_of_D}
 use Rattle.tables.proofs.Slots.{slots}
 use Rattle.table_mirror.specs.Mirror.{Opposite, TablesMirrored, OthersAsFound, Mirrored, MirrorCheck}
 use Rattle.table_mirror.proofs.Rungs.{value_image, derivative_image}
@@ -39,7 +38,7 @@ neg_nan (fin s m e) = refl
 -- a number is equal to itself
 number_itself : (x : Float) → is_nan x ≡ false → eq x x ≡ true
 unfolding ne
-number_itself x h = not_false (nan_test x ∙ h)
+number_itself x h = not-false _ (nan_test x ∙ h)
 
 zero_is_zero : eq f0 f0 ≡ true
 unfolding eq of_bits
@@ -53,11 +52,11 @@ module _ (v : Float) (m : ℕ) (parts : WholeParts v m) where
 
   values_are : (x : Float) → value_of D v x ≡ rung (rungs x)
   values_are x =
-      value_is D v x ∙ rw (parts.side, parts.no_fraction) (value_forward (rungs x) (shifted v) (top_rung v) (D_forward x (shifted v)))
+      value_of_is D v x ∙ rw (parts.side, parts.no_fraction) (value_forward (rungs x) (shifted v) (top_rung v) (D_forward x (shifted v)))
 
   derivatives_are : (x : Float) (k : ℕ) → derivative_of D v x k ≡ derivative D false x f0 k (rung (rungs x) k) (rung (rungs x) (suc k))
   derivatives_are x k =
-      ap (λ (g : ℕ → Float). g k) (derivative_is D v x)
+      ap (λ (g : ℕ → Float). g k) (derivative_of_is D v x)
       ∙ rw (parts.side, parts.no_fraction)
       (derivative_at_law (rungs x) (shifted v) (top_rung v) k
       ∙ rw (value_forward (rungs x) (shifted v) (top_rung v) (D_forward x (shifted v)), add-one k))
@@ -95,8 +94,8 @@ module _ (m : ℕ) (v x : Float) (l : List Float) (order : WholeOrder v m) (numb
   others : OthersAsFound m l (table_after D v x l)
   unfolding slot
   others k no_value no_derivative =
-      let above : m + 1 < k = elim (lt_or_ge (m + 1) k) [ inl h ↦ h | inr h ↦ absurd (no_value (omega arith)) ] in
-      called.others k (rw (values_of_D v, parts.top) (omega arith)) (rw (parts.columns, parts.top) (place (lt_or_ge k (m + 3)) (lt_or_ge k (m + 3 + (m + 1)))))
+      let above : m + 1 < k = elim (cases_lt (m + 1) k) [ inl h ↦ h | inr h ↦ absurd (no_value (omega arith)) ] in
+      called.others k (rw (values_of_D v, parts.top) (omega arith)) (rw (parts.columns, parts.top) (place (cases_lt k (m + 3)) (cases_lt k (m + 3 + (m + 1)))))
     where
       place : (k < m + 3) ⊎ (m + 3 ≤ k) → (k < m + 3 + (m + 1)) ⊎ (m + 3 + (m + 1) ≤ k) → (k < m + 3) ⊎ (m + 3 + (m + 1) ≤ k)
       place (inl a) b = inl a
@@ -108,7 +107,7 @@ module _ (m : ℕ) (v x : Float) (l : List Float) (order : WholeOrder v m) (numb
 equal_numbers : (x y : Float) → eq y (neg x) ≡ true → (is_nan x ≡ false) × (is_nan y ≡ false)
 equal_numbers x y e =
     let p = eq_no_nan y (neg x) (subst T (sym e) tt) in
-    (sym (neg_nan x) ∙ not_true (is_true (not (is_nan (neg x))) p.1), not_true (is_true (not (is_nan y)) p.0))
+    (sym (neg_nan x) ∙ not-true _ (is_true (not (is_nan (neg x))) p.1), not-true _ (is_true (not (is_nan y)) p.0))
 
 module _ (m : ℕ) (v x : Float) (l : List Float) (w y : Float) (r : List Float) (here : WholeOrder v m) (there : WholeOrder w m) (opposite : Opposite x y)
     (long : 2 * (m + 3) ≤ length l) (long' : 2 * (m + 3) ≤ length r) where

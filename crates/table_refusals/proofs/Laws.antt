@@ -1,7 +1,9 @@
 -- The refusal by the outcomes of its tests.
-use Rattle.std.proofs.Common.{◌≡◌, refl, sym, ◌∙◌, Bool, true, false, ◌||◌, cond, ℕ, arith, Float}
+use Rattle.std.proofs.Common.{◌≡◌, refl, Ok, Err, sym, ◌∙◌, Bool, true, false, ◌||◌, cond, ℕ, arith, Float}
 use Rattle.std.specs.Float.Ieee.{is_nan}
 use Rattle.order.specs.Order.{too_large}
+use Rattle.answer.specs.Answer.{number, refusal_of}
+use Rattle.answer.specs.declared.Refusal.{Refusal}
 use Rattle.table_refusals.specs.Refusals.{refusal_by}
 use Rattle.table_refusals.specs.Refusals.Open.{refusal_by_is}
 
@@ -34,3 +36,15 @@ module _ (v x : Float) (short : Bool) where
       passed false false true d e = absurd (omega arith)
       passed false false false true e = absurd (omega arith)
       passed false false false false e = (refl, refl, refl, refl)
+
+-- the number of an outcome, and of a request: what `check` is proved by
+module _ (A : Type 0) where
+  pub no_number : (a : A) → refusal_of {A = A} (Ok a) ≡ 0
+  unfolding refusal_of
+  no_number a = refl
+
+  pub number_of : (refusal : Refusal) → refusal_of {A = A} (Err refusal) ≡ number refusal
+  unfolding refusal_of
+  number_of refusal = refl
+
+pub ruleset outcomes = (no_number, number_of, refusal_by_is)

@@ -7,14 +7,14 @@ ghost use Rattle.answer.specs.Answer.{refusal_of};
 ghost use Rattle.table_refusals.specs.Refusals.{refusal_by};
 
 use answer::Refusal;
-use signs::is_nan;
 
 // Whether a request is refused; `short` says whether a table is too short for it, which each caller tests in its own
 // way.
+#[tactic(auto, using(crate::proofs::Laws::outcomes), unfolding(answer::specs::Answer::number))]
 pub fn check(v: f64, x: f64, short: bool) -> Result<(), Refusal>
     ensures { refusal_of result ≡ refusal_by v x short }
 {
-    if is_nan(v) || is_nan(x) {
+    if v.is_nan() || x.is_nan() {
         return Err(Refusal::NotANumber);
     }
     if order::too_large(v) {

@@ -1,10 +1,11 @@
 -- What a request is refused, leaves and answers, from what its parts do.
-use Rattle.std.proofs.Common.{◌≡◌, sym, ◌∙◌, List, inl, Bool, false, ℕ, ◌+◌, ◌-◌, ◌*◌, ◌≤◌, ◌<◌, zero-add}
+use Rattle.std.proofs.Common.{◌≡◌, sym, ◌∙◌, List, inl, false, ℕ, ◌+◌, ◌-◌, ◌*◌, ◌≤◌, ◌<◌, zero-add}
 use Rattle.std.proofs.Common.{arith, eq-eqb, ne_eqb, le-ltb, ltb-false, ltb, length, Float}
 use Rattle.std.proofs.Math.Option.{Option, some, none}
 use Rattle.std.specs.Float.Ieee.{nan, is_nan}
 use Rattle.order.specs.Order.{too_large, below, shifted, fraction_of, top_rung, num}
 use Rattle.order.specs.Facts.{Split}
+use Rattle.order.specs.declared.Sequence.{Sequence}
 use Rattle.order.proofs.Laws.{num_least}
 use Rattle.table_refusals.specs.Refusals.{refusal_by}
 use Rattle.table_refusals.proofs.Laws.{not_refused, accepted_by}
@@ -17,9 +18,11 @@ use Rattle.table_columns.specs.TableColumns.{values_in, both_columns}
 use Rattle.table_columns.proofs.Room.{room_in_law}
 use Rattle.table_columns.proofs.Tables.{values_in_law, plain_values, both_filled}
 use Rattle.tables.specs.Tables.{refusal, sequence_of, value_of, derivative_of, values_written, table_after, answer}
-use Rattle.tables.specs.Tables.Open.{refusal_is, value_of_is, derivative_of_is, values_written_is, table_after_is, answer_is}
+use Rattle.tables.specs.Tables.Open.{refusal_is, values_written_is, table_after_is, answer_is}
 use Rattle.slots.proofs.Filled.{length_filled, filled_in, filled_out}
 use Rattle.value_column.proofs.Branches.{slot_filled}
+-- passed on: the two columns
+pub use Rattle.tables.specs.Tables.Open.{value_of_is, derivative_of_is}
 
 -- ---- the refusal
 
@@ -36,13 +39,6 @@ module _ (v x : Float) (slots : ℕ) where
       (p.0, p.1, p.2, ltb-false slots (2 * num v) p.3)
 
 -- ---- its rungs, by the parts of its order
-
-module _ (fn : Function) (v x : Float) where
-  pub value_is : value_of fn v x ≡ value (sequence_of fn v x) (shifted v) (top_rung v)
-  value_is = value_of_is fn v x
-
-  pub derivative_is : derivative_of fn v x ≡ derivative_at (sequence_of fn v x) (shifted v) (top_rung v)
-  derivative_is = derivative_of_is fn v x
 
 -- of D just values 0 to n are written
 pub values_of_D : (v : Float) → values_written D v ≡ top_rung v + 1
@@ -92,16 +88,15 @@ module _ (fn : Function) (v x : Float) (l : List Float) where
         rw (after_accepted) (rw zero-add at (filled_in (derivative_of fn v x) 0 (num v) (top_rung v) w nan k h (omega (arith, facts.room, room))))
 
     -- what the parts found and left, put together
-    pub settled : (s : Bool) (u f : Float) (n m : ℕ) (l1 : List Float) (pair : Option (Float × Float))
-        → s ≡ below v → u ≡ shifted v → f ≡ fraction_of v → n ≡ top_rung v → m ≡ num v
-        → l1 ≡ both_columns (record { function = fn; below = s; x = x; f = f }) u n m l
+    pub settled : (r : Sequence) (u : Float) (n m : ℕ) (l1 : List Float) (pair : Option (Float × Float))
+        → r ≡ sequence_of fn v x → u ≡ shifted v → n ≡ top_rung v → m ≡ num v → l1 ≡ both_columns r u n m l
         → pair ≡ some (slot l1 (n - 1), slot l1 (m + (n - 1)))
         → (pair ≡ answer fn v x (length l)) × (l1 ≡ table_after fn v x l)
-    settled s u f n m l1 pair es eu ef en em e1 ep =
+    settled r u n m l1 pair er eu en em e1 ep =
         let in_room = room_in_law (top_rung v) (num v) (length l) facts.least facts.most facts.room (num_least v) room in
         let both : l1 ≡ filled (derivative_at (sequence_of fn v x) (shifted v) (top_rung v)) 0 (num v) (top_rung v) (filled (value (sequence_of fn v x) (shifted v) (top_rung v)) 0 0 (values_in fn (below v) (fraction_of v) (top_rung v)) l) =
-        e1 ∙ rw (es, eu, ef, en, em) (both_filled (sequence_of fn v x) (shifted v) (top_rung v) (num v) l in_room) in
-        let after : l1 ≡ table_after fn v x l = both ∙ rw (after_accepted, derivative_is fn v x, value_is fn v x, values_written_is fn v) in
+        e1 ∙ rw (er, eu, en, em) (both_filled (sequence_of fn v x) (shifted v) (top_rung v) (num v) l in_room) in
+        let after : l1 ≡ table_after fn v x l = both ∙ rw (after_accepted, derivative_of_is fn v x, value_of_is fn v x, values_written_is fn v) in
         let low : slot l1 (n - 1) ≡ value_of fn v x (top_rung v - 1) = rw (after, en) (value_slot (top_rung v - 1) (omega (arith, facts.least))) in
         let high : slot l1 (m + (n - 1)) ≡ derivative_of fn v x (top_rung v - 1) =
         rw (after, en, em) (derivative_slot (top_rung v - 1) (omega (arith, facts.least))) in

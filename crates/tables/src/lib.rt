@@ -13,6 +13,7 @@ use floats::Function;
 use order::Rung;
 
 // Slot n - 1 of both columns.
+#[tactic(auto, unfolding(slots::specs::Slots::slot))]
 fn pair_at(t: &[f64], n: Rung, num: Rung) -> Pair
     requires some { 1 ≤ n }
     requires room { num + n ≤ length t.now }
@@ -34,7 +35,7 @@ pub fn table(function: Function, v: f64, x: f64, t: &mut [f64]) -> Answer
 {
     let num = order::num(v);
     table_refusals::check(v, x, t.len() < 2 * num as usize)?;
-    let split = order::split(v);
-    table_columns::fill_table(t, split.sequence(function, x), split.u, split.n, num);
-    Ok(pair_at(t, split.n, num))
+    let rungs = order::split(v).rungs(function, x);
+    table_columns::fill_table(t, rungs, num);
+    Ok(pair_at(t, rungs.n, num))
 }

@@ -2,7 +2,7 @@
 -- whose cosine is exactly 1. The long numerals are the digits of the constants (ConstantValues.antt).
 use Rattle.std.proofs.Common.{◌≡◌, refl, sym, ◌∙◌, ap, subst, Bool, true, false, cond, ℕ, zero, suc, ◌+◌, ◌-◌, ◌*◌, ◌/◌}
 use Rattle.std.proofs.Common.{◌%◌, ◌^◌, ◌≤◌, ◌<◌, mul-pos, mul-le-mul, mul-le-mul_right, mul-lt-mul_of_pos_right}
-use Rattle.std.proofs.Common.{lt_of_mul-lt-mul_right, arith, lt-ltb, eqb, lit≤, lit<, pos, negsuc, neg_ℤ}
+use Rattle.std.proofs.Common.{lt_of_mul-lt-mul_right, arith, lt-ltb, eqb, lit≤, lit<, pos, negsuc, neg_ℤ, mul-one}
 use Rattle.std.specs.Float.{Float, binary64}
 use Rattle.std.specs.Float.Ieee.{unlike, below, neg, lt, le, round, of_bits, to_signed}
 use Rattle.std.specs.Float.Ieee.Exact.{HasValue}
@@ -77,10 +77,7 @@ cosine_one r s b = cosine_is r ∙ trig_sum_is 1 (r ⊗ r) ∙ stays (trig_term 
 
 end_over : (c : ℕ) → HasValue angle_end false (2 ^ 30 * c) c
 unfolding of_bits
-end_over c = (refl, same c)
-  where
-    same : (c : ℕ) → 2 ^ 30 * c ≡ 2 ^ 30 * c * 1
-    same c = omega arith
+end_over c = (refl, sym (mul-one (2 ^ 30 * c)))
 
 in_angle_range : (x : Float) (s : Bool) (l u d : ℕ) → 0 < d → u < 2 ^ 30 * d → Between x s l u d → (lt x angle_end ≡ true) × (lt (neg angle_end) x ≡ true)
 in_angle_range x s l u d D h b =

@@ -8,6 +8,7 @@ ghost use Rattle.trigonometric.specs.Trigonometric.{quadrant, angle_rest, trig_s
 ghost use Rattle.trigonometric.specs.Angle.{in_reach, HasAngle};
 
 use near::near;
+use std::f64::consts::FRAC_2_PI;
 
 // A number as its quarter turns modulo 4, and what it has beyond all of them. The quadrant is a number: the cosine adds
 // one to it.
@@ -70,7 +71,7 @@ fn angle_of(y: f64) -> Option<Angle>
     ensures { MatchOption result (in_reach y ≡ false) (λ a. HasAngle y a.quadrant a.rest) }
 {
     if -1073741824.0 < y && y < 1073741824.0 {
-        let q = near(y * 0.6366197723675814);
+        let q = near(y * FRAC_2_PI);
         Some(Angle {
             quadrant: quadrant(q),
             rest: angle_rest(y, q),
@@ -100,10 +101,7 @@ fn sin_in(a: Angle) -> f64
 pub fn sin(y: f64) -> f64
     ensures { result ≡ sin y }
 {
-    match angle_of(y) {
-        Some(a) => sin_in(a),
-        None => f64::NAN,
-    }
+    angle_of(y).map_or(f64::NAN, sin_in)
 }
 
 // The cosine of y, which is the sine one quarter turn further; NaN unless the size of y is below 2^30.
@@ -111,11 +109,10 @@ pub fn sin(y: f64) -> f64
 pub fn cos(y: f64) -> f64
     ensures { result ≡ cos y }
 {
-    match angle_of(y) {
-        Some(Angle { quadrant, rest }) => sin_in(Angle {
-            quadrant: (quadrant + 1) % 4,
-            rest,
-        }),
-        None => f64::NAN,
-    }
+    angle_of(y).map_or(f64::NAN, |a| {
+        sin_in(Angle {
+            quadrant: (a.quadrant + 1) % 4,
+            rest: a.rest,
+        })
+    })
 }

@@ -2,19 +2,19 @@
 use Rattle.std.proofs.Common.{◌≡◌, lit≤, w32, SFits, to_z-of_z, Bool, le-ltb, lt-ltb, lt→ltb, mul-le-mul_right, ℕ, ◌+◌}
 use Rattle.std.proofs.Common.{◌*◌, ◌/◌, ◌^◌, ◌<◌, ◌≤◌, min, true, false, T, ltb, ℤ, pos, negsuc, neg_ℤ, sym, refl, ap}
 use Rattle.std.proofs.Common.{◌∙◌, subst, true≢false, div-lt_iff_lt-mul, le-div_iff_mul-le, div-one, arith, ltb-false}
-use Rattle.std.proofs.Common.{ltb-true}
+use Rattle.std.proofs.Common.{ltb-true, zero-lt-suc}
 use Rattle.std.specs.Float.{Float, nan, inf, fin}
-use Rattle.std.specs.Float.Ieee.{up, down, neg, lt, le, eq, ne, is_nan, of_bits, to_signed}
+use Rattle.std.specs.Float.Ieee.{up, down, neg, lt, le, ne, is_nan, of_bits, to_signed}
 use Rattle.std.specs.Float.Ieee.Exact.{HasValue}
 use Rattle.std.proofs.Math.Nat.{min-eq_left}
 use Rattle.std.specs.Int.Signed.{lt_z, non_neg}
 use Rattle.std.specs.Float.Ieee.Compare.{differs_from_itself}
 use Rattle.std.specs.Float.Ieee.Fits.{down_pos}
 use Rattle.std.specs.Float.Ieee.Casts.{to_signed_in}
+use Rattle.std.proofs.lemmas.Bool.{false_from_ne_true, true_from_ne_false}
+use Rattle.std.proofs.lemmas.Float as Order
 use borrow.Author.Rules.{sfits_of}
 use Rattle.floats.specs.Operations.{bits, f0}
-use Rattle.floats.proofs.Booleans.{or_l}
-use Rattle.floats.proofs.Tests.{one}
 use Rattle.floats.proofs.Values.{to_signed_at}
 
 under : (a d n : ℕ) → 0 < d → ltb (a * 1) (n * d) ≡ true → a / d < n
@@ -22,10 +22,6 @@ under a d n p h = let k = ltb-true (a * 1) (n * d) h in (div-lt_iff_lt-mul p).1 
 
 over : (a d n : ℕ) → 0 < d → ltb (a * 1) (n * d) ≡ false → n ≤ a / d
 over a d n p h = let k = ltb-false (a * 1) (n * d) h in (le-div_iff_mul-le p).1 (omega arith)
-
-lt→le : (x y : Float) → T (lt x y) → T (le x y)
-unfolding le
-lt→le x y t = or_l (lt x y) (eq x y) t
 
 -- A float between two whole numbers that lie in an i64's range: what `truncating_f64_to_i64` asks
 in_i64 : (a i b j : ℕ) → a * 2 ^ i ≤ 2 ^ 63 → b * 2 ^ j ≤ 2 ^ 63 → (x : Float) → lt x (fin false a (pos i)) ≡ true
@@ -39,12 +35,12 @@ in_i64 a i b j ha hb (fin false m e) p q =
     let d = down_pos e in
     let h = ltb-true (m * up e * 1) (a * 2 ^ i * down e) p in
     let k = mul-le-mul_right (down e) ha in
-    (lt→le (fin true 1 (pos 63)) (fin false m e) (lt→ltb 0 (2 ^ 63 * down e + m * up e * 1) (omega arith)), lt→ltb (m * up e * 1) (2 ^ 63 * down e) (omega arith))
+    (Order.le_of_lt (fin true 1 (pos 63)) (fin false m e) (lt→ltb 0 (2 ^ 63 * down e + m * up e * 1) (omega arith)), lt→ltb (m * up e * 1) (2 ^ 63 * down e) (omega arith))
 in_i64 a i b j ha hb (fin true m e) p q =
     let d = down_pos e in
     let h = ltb-true (m * up e * 1) (b * 2 ^ j * down e) q in
     let k = mul-le-mul_right (down e) hb in
-    (lt→le (fin true 1 (pos 63)) (fin true m e) (lt→ltb (m * up e * 1) (2 ^ 63 * down e) (omega arith)), lt→ltb 0 (m * up e * 1 + 2 ^ 63 * down e) (omega arith))
+    (Order.le_of_lt (fin true 1 (pos 63)) (fin true m e) (lt→ltb (m * up e * 1) (2 ^ 63 * down e) (omega arith)), lt→ltb 0 (m * up e * 1 + 2 ^ 63 * down e) (omega arith))
 
 -- a float that an i32 holds is the same as an i64
 pub in_i32 : (x : Float) → lt x (fin false 1 (pos 31)) ≡ true → lt (fin true 2147483649 (pos 0)) x ≡ true → to_signed 63 x ≡ to_signed 31 x
@@ -133,20 +129,12 @@ under_zero (fin false m e) p q = let d = down_pos e in let k = ltb-false 0 (2147
 
 pub past_below : (x : Float) → lt (neg bottom) x ≡ false → lt x f0 ≡ true → to_signed 31 x ≡ negsuc 2147483647
 unfolding of_bits neg
-past_below x p q = below_i32 x (go (lt x (fin false 1 (pos 31))) refl) p
-  where
-    go : (t : Bool) → lt x (fin false 1 (pos 31)) ≡ t → t ≡ true
-    go true e = refl
-    go false e = cc (not_below_zero x e)
+past_below x p q = below_i32 x (true_from_ne_false (lt x (fin false 1 (pos 31))) (λ e. true≢false (sym q ∙ not_below_zero x e))) p
 
 -- only NaN differs from itself
 same_unless_nan : (x : Float) → is_nan x ≡ false → ne x x ≡ false
 unfolding is_nan
-same_unless_nan x p = go (ne x x) refl
-  where
-    go : (t : Bool) → ne x x ≡ t → t ≡ false
-    go true e = absurd (true≢false (sym (ap is_nan (differs_from_itself x (subst T (sym e) tt))) ∙ p))
-    go false e = refl
+same_unless_nan x p = false_from_ne_true (ne x x) (λ e. true≢false (sym (ap is_nan (differs_from_itself x (subst T (sym e) tt))) ∙ p))
 
 pub past_above : (x : Float) → lt x top ≡ false → is_nan x ≡ false → to_signed 31 x ≡ pos 2147483647
 unfolding of_bits
@@ -164,7 +152,7 @@ pub ruleset cast_laws = (above_i64, below_i64, as_i64, fits_i32, not_below_zero,
 -- a whole number from −2^31 to −0.0 is cast to itself
 pub whole_to_i32 : (x : Float) (n : ℕ) → n ≤ 2 ^ 31 → HasValue x true n 1 → to_signed 31 x ≡ neg_ℤ (pos n)
 whole_to_i32 x n h v =
-    to_signed_at 31 x true n 1 one v ∙ ap (λ (k : ℕ). neg_ℤ (pos k)) (ap (λ (k : ℕ). min k (2 ^ 31)) (div-one n) ∙ min-eq_left h)
+    to_signed_at 31 x true n 1 (zero-lt-suc 0) v ∙ ap (λ (k : ℕ). neg_ℤ (pos k)) (ap (λ (k : ℕ). min k (2 ^ 31)) (div-one n) ∙ min-eq_left h)
 
 -- an integer that is not below 0 can be cast to an unsigned one
 pub from_zero : (m : ℤ) → lt_z m (pos 0) ≡ false → T (non_neg m)

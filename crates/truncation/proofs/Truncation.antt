@@ -1,19 +1,20 @@
 -- From 2 ^ (prec - 1) on every value of a format is whole, so adding 2 ^ 52 to a smaller size and taking it off again leaves a whole number next to the size.
 use Rattle.std.proofs.Common.{◌≡◌, ℕ, suc, ◌+◌, ◌-◌, ◌*◌, ◌/◌, ◌^◌, ◌<◌, ◌≤◌, Bool, true, false, T, ltb, ℤ, pos, sym}
 use Rattle.std.proofs.Common.{refl, ap, ◌∙◌, subst, inl, inr, le_trans, le_of_eq, lt_of_lt_of_le, le_of_lt}
-use Rattle.std.proofs.Common.{mul-le-mul_right, mul_assoc, suc-mul, div-lt_iff_lt-mul, mul-le-mul_left}
-use Rattle.std.proofs.Common.{mul-lt-mul_of_pos_right, pow-suc, le-div_iff_mul-le, zero-mul, mul-one, sub-add_cancel}
+use Rattle.std.proofs.Common.{mul-le-mul_right, div-lt_iff_lt-mul, mul-le-mul_left}
+use Rattle.std.proofs.Common.{mul-lt-mul_of_pos_right, le-div_iff_mul-le, zero-mul, mul-one}
 use Rattle.std.proofs.Common.{mul_right_comm, not-le_of_lt, div-mul-le_self, le_of_mul-le-mul_right, mul-div_cancel}
-use Rattle.std.proofs.Common.{arith, pow_pos, pow_mono, pow-add, ltb-false, ltb-true, lt-ltb}
+use Rattle.std.proofs.Common.{arith, pow_pos, pow_mono, ltb-false, ltb-true, lt-ltb, zero-lt-suc, le-add_left}
 use Rattle.std.specs.Float.{Float, nan, inf, fin, Format, binary64}
 use Rattle.std.specs.Float.Ieee.{prec, low, up, down, round, add, neg, lt, below, fits, of_int, of_bits}
 use Rattle.std.specs.Float.Ieee.Exact.{HasValue}
-use Rattle.std.proofs.Math.Nat.{eq_of_mul-eq-mul_right, pow-succ', lt-div-mul-add, add-mul-div_right}
+use Rattle.std.proofs.Math.Nat.{eq_of_mul-eq-mul_right, lt-div-mul-add, add-mul-div_right}
 use Rattle.std.specs.Float.Ieee.Fits.{round-fits, of_int-fits, down_pos}
 use Rattle.std.specs.Float.Ieee.Scale.{grid}
+use Rattle.std.proofs.lemmas.Bool.{cases_lt}
+use Rattle.floats.proofs.Powers.{place_moved, shl_split}
 use Rattle.truncation.specs.Truncation.{truncated}
 use Rattle.floats.specs.Operations.{◌⊕◌, ◌⊖◌, f0, f1, whole_from}
-use Rattle.floats.proofs.Tests.{one, lt_or_ge}
 use Rattle.floats.proofs.Values.{value_finite, value_unique, cross, rescale, own_value, zero_value, of_int_pos}
 use Rattle.floats.proofs.Arithmetic.{add_at, sum_plus}
 use Rattle.floats.proofs.Comparison.{lt_at}
@@ -22,11 +23,10 @@ use Rattle.floats.proofs.Wholes.{of_pos, whole_sub}
 
 -- q of p + 1 digits, times 2 ^ j, reaches 2 ^ p * 2 ^ l only where j is l or more
 enough_places : (q j l p : ℕ) → q < 2 ^ suc p → 2 ^ p * 2 ^ l ≤ q * 2 ^ j → l ≤ j
-enough_places q j l p Q h = elim (lt_or_ge j l) [
+enough_places q j l p Q h = elim (cases_lt j l) [
   | inl a ↦
       absurd
-      (not-le_of_lt (lt_of_lt_of_le (mul-lt-mul_of_pos_right Q (pow_pos j))
-      (le_trans (le_of_eq (ap (λ (z : ℕ). z * 2 ^ j) (pow-suc 2 p) ∙ mul_assoc (2 ^ p) 2 (2 ^ j) ∙ ap (λ (z : ℕ). 2 ^ p * z) (sym (pow-succ' 2 j)))) (mul-le-mul_left (2 ^ p) (pow_mono a))))
+      (not-le_of_lt (lt_of_lt_of_le (mul-lt-mul_of_pos_right Q (pow_pos j)) (le_trans (le_of_eq (place_moved p j)) (mul-le-mul_left (2 ^ p) (pow_mono a))))
       h)
   | inr b ↦ b
 ]
@@ -40,9 +40,7 @@ large_whole f x s a c p P C fit v h =
     let r : 2 ^ p * 2 ^ l * c ≤ g.q * 2 ^ g.j * c = le_trans (le_of_eq (mul_right_comm (2 ^ p) (2 ^ l) c)) (le_trans (mul-le-mul_right (2 ^ l) h) (le_of_eq e)) in
     let b : l ≤ g.j = enough_places g.q g.j l p (subst (λ (z : ℕ). g.q < 2 ^ z) P g.small) (le_of_mul-le-mul_right r C) in
     let w = g.q * 2 ^ (g.j - l) in
-    let d : g.q * 2 ^ g.j ≡ w * 2 ^ l =
-    ap (λ (z : ℕ). g.q * 2 ^ z) (sym (sub-add_cancel b)) ∙ ap (λ (z : ℕ). g.q * z) (pow-add 2 (g.j - l) l)
-    ∙ sym (mul_assoc g.q (2 ^ (g.j - l)) (2 ^ l)) in (
+    let d : g.q * 2 ^ g.j ≡ w * 2 ^ l = shl_split g.q g.j l b in (
       w,
       rescale x s a c w 1 C
           (mul-one a ∙ eq_of_mul-eq-mul_right (2 ^ l) (pow_pos l) a (w * c) (e ∙ ap (λ (z : ℕ). z * c) d ∙ mul_right_comm w (2 ^ l) c)) v,
@@ -54,22 +52,19 @@ pub round_next : (f : Format) (a c p : ℕ) → prec f ≡ suc p → 0 < c → 2
 round_next f a c p P C h few =
     let n = a / c in
     let l = 2 ^ low f in
-    let over : a * 1 ≤ suc n * c = above a n c (lt-div-mul-add C) in
-    let lo = grid_ge f (of_int f (pos n)) a c n 1 C one (of_int-fits f (pos n)) (of_int_pos f n (le_of_lt few)) (le_trans (div-mul-le_self a c) (le_of_eq (sym (mul-one a)))) in
-    let hi = grid_le f (of_int f (pos (suc n))) a c (suc n) 1 C one (of_int-fits f (pos (suc n))) (of_int_pos f (suc n) few) over in
+    let over : a * 1 ≤ suc n * c = omega (arith, lt-div-mul-add {a = a} C) in
+    let lo = grid_ge f (of_int f (pos n)) a c n 1 C (zero-lt-suc 0) (of_int-fits f (pos n)) (of_int_pos f n (le_of_lt few)) (omega (arith, div-mul-le_self a c)) in
+    let hi = grid_le f (of_int f (pos (suc n))) a c (suc n) 1 C (zero-lt-suc 0) (of_int-fits f (pos (suc n))) (of_int_pos f (suc n) few) over in
     let v = round_value f false a c hi.0 in
     let big : 2 ^ p * l ≤ grid f a c = le_trans (mul-le-mul_right l ((le-div_iff_mul-le C).1 h)) (le_trans lo (le_of_eq (mul-one (grid f a c)))) in
     let x = large_whole f (round f false a c) false (grid f a c) l p P (pow_pos (low f)) (round-fits f false a c) v big in
     let e : grid f a c * 1 ≡ x.0 * l = cross (round f false a c) false false (grid f a c) l x.0 1 v x.1 in
     let top : x.0 ≤ suc n = le_of_mul-le-mul_right (le_trans (le_of_eq (sym e)) hi.1) (pow_pos (low f)) in (
       x.0,
-      value_unique f (round f false a c) (of_int f (pos x.0)) false x.0 1 one (round-fits f false a c) (of_int-fits f (pos x.0)) x.1 (of_int_pos f x.0 (le_trans top few)),
+      value_unique f (round f false a c) (of_int f (pos x.0)) false x.0 1 (zero-lt-suc 0) (round-fits f false a c) (of_int-fits f (pos x.0)) x.1 (of_int_pos f x.0 (le_trans top few)),
       le_of_mul-le-mul_right (le_trans lo (le_of_eq e)) (pow_pos (low f)),
       top,
     )
-  where
-    above : (a n c : ℕ) → a < n * c + c → a * 1 ≤ suc n * c
-    above a n c h = le_trans (le_of_eq (mul-one a)) (le_trans (le_of_lt h) (le_of_eq (sym (suc-mul n c))))
 
 -- ---- a size y = a / c below 2 ^ 52, and y + 2 ^ 52 - 2 ^ 52
 
@@ -101,7 +96,7 @@ near_whole m e h =
     let n = a / c in
     let C = down_pos e in
     let d : (a + 2 ^ 52 * c) / c ≡ n + 2 ^ 52 = add-mul-div_right a (2 ^ 52) C in
-    let r = round_next binary64 (a + 2 ^ 52 * c) c 52 refl C (more (2 ^ 52 * c) a) (rw d (omega arith)) in
+    let r = round_next binary64 (a + 2 ^ 52 * c) c 52 refl C (le-add_left (2 ^ 52 * c) a) (rw d (omega arith)) in
     let lo : n + 2 ^ 52 ≤ r.0 = le_trans (le_of_eq (sym d)) r.2 in
     let hi : r.0 ≤ suc (n + 2 ^ 52) = le_trans r.3 (le_of_eq (ap suc d)) in
     let s : add binary64 (fin false m e) limit ≡ of_int binary64 (pos r.0) =
@@ -114,15 +109,12 @@ near_whole m e h =
       at_least = omega arith;
       at_most = omega arith;
     }
-  where
-    more : (x a : ℕ) → x ≤ a + x
-    more x a = omega arith
 
 -- y against the whole number k
 below_whole : (m : ℕ) (e : ℤ) (k : ℕ) → k ≤ 2 ^ 53 → lt (fin false m e) (of_int binary64 (pos k)) ≡ ltb (m * up e) (k * down e)
 below_whole m e k h =
     lt_at (fin false m e) (of_int binary64 (pos k)) false (m * up e) false (k * down e) (down e) (down_pos e) (own_value false m e)
-    (rescale (of_int binary64 (pos k)) false k 1 (k * down e) (down e) one (sym (mul-one (k * down e))) (of_int_pos binary64 k h))
+    (rescale (of_int binary64 (pos k)) false k 1 (k * down e) (down e) (zero-lt-suc 0) (sym (mul-one (k * down e))) (of_int_pos binary64 k h))
 
 limit_above : (m : ℕ) (e : ℤ) → lt (fin false m e) limit ≡ ltb (m * up e) (2 ^ 52 * down e)
 limit_above m e = lt_at (fin false m e) limit false (m * up e) false (2 ^ 52 * down e) (down e) (down_pos e) (own_value false m e) (limit_value (down e))
@@ -184,7 +176,7 @@ zero_digits a c h = let z : a ≡ 0 = omega arith in z ∙ sym (zero-mul c)
 whole_itself : (s : Bool) (m : ℕ) (e : ℤ) (w : ℕ) → T (fits binary64 (fin s m e)) → m * up e ≡ w * down e → fin s m e ≡ truncated (fin s m e)
 unfolding truncated
 whole_itself s m e w p h =
-    sym (round_back binary64 (fin s m e) s w 1 one p (refl, mul-one (m * up e) ∙ h))
+    sym (round_back binary64 (fin s m e) s w 1 (zero-lt-suc 0) p (refl, mul-one (m * up e) ∙ h))
     ∙ ap (λ (z : ℕ). round binary64 s z 1) (sym (ap (λ (z : ℕ). z / down e) h ∙ mul-div_cancel w (down_pos e)))
 
 pub whole_truncated : (x : Float) (s : Bool) (w : ℕ) → T (fits binary64 x) → HasValue x s w 1 → x ≡ truncated x

@@ -1,5 +1,5 @@
 -- What the calls of each branch leave together: its value column.
-use Rattle.std.proofs.Common.{◌≡◌, sym, ap, ◌∙◌, List, ◌++◌, true, false, ℕ, ◌+◌, ◌-◌, ◌≤◌, ◌<◌, min, zero-add, arith}
+use Rattle.std.proofs.Common.{◌≡◌, sym, ap, ◌∙◌, List, ◌++◌, ℕ, ◌+◌, ◌-◌, ◌≤◌, ◌<◌, min, zero-add, arith}
 use Rattle.std.proofs.Common.{length, length-set, set, take, drop}
 use Rattle.std.specs.Float.{nan}
 use Rattle.std.specs.Float.Ieee.{Float}
@@ -9,10 +9,10 @@ use Rattle.order.specs.declared.Sequence.{Sequence}
 use Rattle.recurrence.specs.Recurrence.{next_rung}
 use Rattle.rungs.specs.Rungs.{start_value, start_rungs, rung, descent, top_rungs, downward_rung, seed, raw_rung, scaled_rung}
 use Rattle.rungs.specs.ColumnValues.{value, derivative_at}
-use Rattle.rungs.proofs.Laws.{derivative_at_law, rungs_zero_one, rung_two, descent_top, descent_above, descent_on, downward_rung_law, raw_rung_law, scaled_rung_law}
+use Rattle.rungs.proofs.Laws.{derivative_at_law, rungs_zero_one, rung_two, descent_top, descent_above, descent_on, downward_rung_law, raw_rung_law, scaled_rung_law, value_forward, value_downward, value_scaled}
 use Rattle.slots.specs.Slots.{filled, slot}
 use Rattle.value_column.specs.OverSlots.{scaled_by, derivative_over}
-use Rattle.value_column.specs.ValueColumn.{room_up_to, all_values}
+use Rattle.value_column.specs.ValueColumn.{all_values}
 use Rattle.value_column.specs.ValueColumn.Open.{all_values_is}
 use Rattle.value_column.proofs.Room.{room_up_to_law}
 use Rattle.slots.proofs.Filled.{length_filled, filled_front, filled_one, filled_in, filled_on, filled_same, filled_over, filled_under, filled_before}
@@ -145,18 +145,15 @@ in_table v n t c room e =
 -- ---- the column, and the derivatives over it
 
 module _ (r : Sequence) (u : Float) (n : ℕ) (l : List Float) where
-  pub values_filled : room_up_to n (length l) ≡ true → filled (value r u n) 0 0 (n + 1) l ≡ all_values r u n l
-  values_filled room = rw (all_values_is r u n l, room)
-
-  pub values_left : room_up_to n (length l) ≡ false → l ≡ all_values r u n l
-  values_left room = rw (all_values_is r u n l, room)
-
   -- for the crates above: what the column is where there is room
   pub all_values_law : 1 ≤ n → n ≤ 1000 → n < length l → all_values r u n l ≡ filled (value r u n) 0 0 (n + 1) l
-  all_values_law h g s = sym (values_filled (room_up_to_law n (length l) h g s))
+  all_values_law h g s = rw (all_values_is r u n l, room_up_to_law n (length l) h g s)
 
   pub over_values : n < length l → (k : ℕ) → k < n → derivative_over r (filled (value r u n) 0 0 (n + 1) l) k ≡ derivative_at r u n k
   unfolding derivative_over
   over_values room k h =
       rw (slot_filled (value r u n) (n + 1) l k (omega arith) (omega arith), slot_filled (value r u n) (n + 1) l (k + 1) (omega arith) (omega arith))
       (sym (derivative_at_law r u n k))
+
+-- what the column is in each branch, for `fill_values`
+pub ruleset value_cases = (all_values_is, value_forward, value_downward, value_scaled)

@@ -1,11 +1,12 @@
 // The value column of the branches that run downward.
 
-ghost use Rattle.std.specs.Prelude.{◌≡◌, ◌+◌, ◌<◌, length, min};
+ghost use Rattle.std.specs.Prelude.{◌≡◌, true, ◌+◌, length, min};
 ghost use Rattle.rungs.specs.Rungs.{descent, downward_rung, scaled_rung};
 ghost use Rattle.slots.specs.Slots.{filled};
 ghost use Rattle.value_column.specs.OverSlots.{scaled_by};
+ghost use Rattle.value_column.specs.ValueColumn.{room_up_to};
 
-use order::{Adjacent, Rung, Sequence, Top};
+use order::{Adjacent, Rung, Rungs, Sequence};
 
 // Works out rungs top - 1 to 0, each from the two above it, and stores those that have a slot. At first `two` are the
 // values of rungs top and top + 1.
@@ -32,28 +33,29 @@ fn scale(t: &mut [f64], s: f64)
 }
 
 // Stores rungs 0 to n, from rungs n and n - 1 down.
-pub(crate) fn downward(t: &mut [f64], sequence: Sequence, u: f64, top: Top)
-    requires { top.n < length t.old }
-    ensures { t.new ≡ filled (downward_rung sequence u top.n) 0 0 (top.n + 1) t.old }
+pub(crate) fn downward(t: &mut [f64], rungs: Rungs)
+    requires { room_up_to rungs.n (length t.old) ≡ true }
+    ensures { t.new ≡ filled (downward_rung rungs.sequence rungs.u rungs.n) 0 0 (rungs.n + 1) t.old }
 {
-    let two = rungs::top_rungs(sequence, u, top.n);
-    let last = top.n as usize;
+    let two = rungs::top_rungs(rungs);
+    let last = rungs.n as usize;
     t[last] = two.high;
     t[last - 1] = two.low;
-    descend(t, sequence, top.n - 1, two);
+    descend(t, rungs.sequence, rungs.n - 1, two);
 }
 
 // Stores rungs 0 to n, worked out from 100 + n down and then scaled.
-pub(crate) fn scaled(t: &mut [f64], sequence: Sequence, top: Top)
-    requires { top.n < length t.old }
-    ensures { t.new ≡ filled (scaled_rung sequence top.n) 0 0 (top.n + 1) t.old }
+pub(crate) fn scaled(t: &mut [f64], rungs: Rungs)
+    requires { room_up_to rungs.n (length t.old) ≡ true }
+    ensures { t.new ≡ filled (scaled_rung rungs.sequence rungs.n) 0 0 (rungs.n + 1) t.old }
 {
-    let column = &mut t[..=top.n as usize];
+    let Rungs { sequence, n, .. } = rungs;
+    let column = &mut t[..=n as usize];
     let seeds = Adjacent {
         low: rungs::seed(sequence.function),
         high: 0.0,
     };
-    descend(column, sequence, top.n + 101, seeds);
+    descend(column, sequence, n + 101, seeds);
     let s = rungs::start_value(sequence, sequence.f) / column[0];
     scale(column, s);
 }

@@ -51,3 +51,16 @@ pub runs_forward_is : (fn : Function) (below : Bool) (x : Float) (u : Float)
     → runs_forward fn below x u ≡ is_forward (branch_of fn below x u)
 unfolding runs_forward
 runs_forward_is fn below x u = refl
+
+pub ruleset laws = (
+  order_is_low_is,
+  runs_down_is,
+  branch_of_D_above,
+  branch_of_D_below,
+  branch_of_V_above,
+  branch_of_V_below,
+  is_forward-Forward,
+  is_forward-Downward,
+  is_forward-Scaled,
+  runs_forward_is,
+)

@@ -26,3 +26,5 @@ pub derivative_V_below : (x : Float) (f : Float) (k : ℕ) (low : Float) (high :
     → derivative «V» true x f k low high ≡ neg f½ ⊗ x ⊗ low ⊕ high
 unfolding derivative
 derivative_V_below x f k low high = refl
+
+pub ruleset laws = (derivative_D_above, derivative_D_below, derivative_V_above, derivative_V_below)

@@ -8,7 +8,7 @@ use Rattle.answer.specs.Answer.{answer_by}
 use Rattle.mul_exp.specs.MulExp.{mul_exp}
 use Rattle.expansion_elementary.specs.Mantissas.{mantissas}
 use Rattle.expansion.specs.Constants.{order_limit, f20}
-use Rattle.expansion.specs.Expansion.{in_range, refusal, pair_by, answer}
+use Rattle.expansion.specs.Expansion.{refusal, pair_by, answer}
 
 one_not_zero : ◌≡◌ {A = ℕ} 1 0 → ⊥
 one_not_zero h = omega arith
@@ -32,18 +32,6 @@ module _ (v x : Float) where
   pub argument_nan : is_nan v ≡ false → is_nan x ≡ true → refusal v x ≡ 1
   unfolding refusal
   argument_nan a b = rw (a, b)
-
-  pub order_outside : is_nan v ≡ false → is_nan x ≡ false → in_range v ≡ false → refusal v x ≡ 4
-  unfolding refusal
-  order_outside a b c = rw (a, b, c)
-
-  pub infinite_in_range : is_nan v ≡ false → is_nan x ≡ false → in_range v ≡ true → infinite x ≡ true → refusal v x ≡ 5
-  unfolding refusal
-  infinite_in_range a b c d = rw (a, b, c, d)
-
-  pub accepted_in_range : is_nan v ≡ false → is_nan x ≡ false → in_range v ≡ true → infinite x ≡ false → refusal v x ≡ 0
-  unfolding refusal
-  accepted_in_range a b c d = rw (a, b, c, d)
 
   pub order_below : is_nan v ≡ false → is_nan x ≡ false → lt (neg order_limit) v ≡ false → refusal v x ≡ 4
   unfolding refusal

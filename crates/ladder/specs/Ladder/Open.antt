@@ -5,7 +5,8 @@ use Rattle.std.proofs.Math.Path.{refl}
 use Rattle.derivatives.specs.Derivatives.{derivative}
 use Rattle.slots.specs.Slots.{filled}
 use Rattle.tables.specs.Tables.{sequence_of, value_of, derivative_of}
-use Rattle.ladder_machine.specs.Machine.{Request, asked, Verdict, stays, goes_on, starts_at, effect, verdict}
+use Rattle.ladder_machine.specs.declared.Request.{Request}
+use Rattle.ladder_machine.specs.Machine.{asked, Verdict, stays, goes_on, starts_at, effect, verdict}
 use Rattle.ladder_machine.specs.Held.{machine_of}
 use Rattle.ladder_states.specs.declared.Ladder.{Ladder}
 use Rattle.ladder_states.specs.States.{state_of, sequence_in, held_in}

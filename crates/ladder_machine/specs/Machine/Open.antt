@@ -10,7 +10,8 @@ use Rattle.floats.specs.declared.Function.{Function}
 use Rattle.floats.specs.declared.Function.TheVariants.{D, «V»}
 use Rattle.branches.specs.Branches.{runs_forward}
 use Rattle.table_refusals.specs.Refusals.{refusal_by}
-use Rattle.ladder_machine.specs.Machine.{Request, Inputs, request, Feed, too_short, refusal, Machine, empty, holds}
+use Rattle.ladder_machine.specs.declared.Request.{Request}
+use Rattle.ladder_machine.specs.Machine.{Inputs, request, Feed, too_short, refusal, Machine, empty, holds}
 use Rattle.ladder_machine.specs.Machine.{bits_of, holding, refuses, repeats, climbs, starts_over, written, stays}
 use Rattle.ladder_machine.specs.Machine.{goes_on, starts_at, effect, same_function, same_rungs, may_climb, case_by}
 use Rattle.ladder_machine.specs.Machine.{case_of, verdict_on, verdict, held_then, next, verdicts, after}

@@ -9,7 +9,7 @@ use Rattle.maclaurin.proofs.maclaurin.Goals as goal
 use Rattle.maclaurin.proofs.maclaurin.Goals.{After-check}
 
 -- what the test says of the request's own refusal
-tested : (c : After-check) → let g = c.args in refusal_of c.check.result ≡ refusal g.a g.x g.c0 g.c1 g.e
+tested : (c : After-check) → let g = c.args in let w = g.start in refusal_of c.check.result ≡ refusal g.a g.x w.pair.value w.pair.derivative w.exponent
 tested c = c.check.ensures ∙ sym (refusal_is _ _ _ _ _)
 
 pub returns-in_err-check : goal.returns-in_err-check

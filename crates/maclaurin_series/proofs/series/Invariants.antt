@@ -8,4 +8,4 @@ abbrev pub invariant-loop-n : goal.invariant-loop-n
 invariant-loop-n l =
     count_up (turn l.a l.x) (60 - l.n) l.n
     (false, (get_or l.b 0 nan, get_or l.b 1 nan, get_or l.b 2 nan, get_or l.b 3 nan, l.value, l.derivative, l.xn, l.prev))
-    ≡ series l.a l.x l.c0 l.c1
+    ≡ series l.a l.x l.fn.start.value l.fn.start.derivative

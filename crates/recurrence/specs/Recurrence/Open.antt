@@ -54,3 +54,7 @@ pub step_down_V : (x : Float) (f : Float) (k : ℕ) (low : Float) (high : Float)
     → step_down «V» x f k low high ≡ x ⊗ low ⊖ (whole k ⊕ f ⊕ f2) ⊗ high
 unfolding step_down
 step_down_V x f k low high = refl
+
+pub ruleset step_laws = (step_D_above, step_D_below, step_V_above, step_V_below, step_down_D, step_down_V)
+
+pub ruleset rung_two_laws = (own_rung_two_D, own_rung_two_V_above, own_rung_two_V_below, next_rung_is)

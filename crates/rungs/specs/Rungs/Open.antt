@@ -133,3 +133,26 @@ raw_rung_is r n = refl
 pub scaled_rung_is : (r : Sequence) (n k : ℕ) → scaled_rung r n k ≡ raw_rung r n k ⊗ (start_value r r.f ⊘ raw_rung r n 0)
 unfolding scaled_rung
 scaled_rung_is r n k = refl
+
+pub ruleset start_laws = (
+  start_sum_D_small,
+  start_sum_D_large,
+  start_sum_V_small,
+  start_sum_V_large,
+  small_limit_D,
+  small_limit_V,
+  start_value_is,
+  gaussian_is,
+  growth_is,
+  starts_gaussian_D_above,
+  starts_gaussian_D_below,
+  starts_gaussian_V,
+  next_order_above,
+  next_order_below,
+  start_rungs_is,
+  top_orders_D,
+  top_orders_V,
+  top_rungs_is,
+  seed_D,
+  seed_V,
+)

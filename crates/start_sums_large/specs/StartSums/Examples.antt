@@ -5,7 +5,7 @@ use Rattle.std.specs.Float.Ieee.{add, sub, mul, div, neg, lt, of_bits, of_int}
 use Rattle.floats.specs.Operations.{bits, decimal}
 use Rattle.signs.specs.Signs.{absolute}
 use Rattle.floats.specs.Loops.{count_up}
-use Rattle.start_sums_large.specs.StartSums.{dvla_turn, dvla_sum, vvla_turn, vvla_sum}
+use Rattle.start_sums_large.specs.StartSums.{expansion_turn, dvla_sum, vvla_sum}
 
 -- a sum at its arguments, and its value there
 abbrev pub examples : List (Float × Float)
@@ -24,5 +24,5 @@ abbrev pub values : List Float
 values = map (λ (e : Float × Float). e.1) examples
 
 pub examples_hold : computed ≡ values
-unfolding dvla_turn dvla_sum vvla_turn vvla_sum absolute count_up add sub mul div neg lt of_bits decimal of_int
+unfolding expansion_turn dvla_sum vvla_sum absolute count_up add sub mul div neg lt of_bits decimal of_int
 examples_hold = refl

@@ -45,24 +45,24 @@ pair_at-requires c =
     let g = c.args in
     let fit : T (fits binary64 g.v) = search rules in
     let none = ok (goal.at.pair_at-requires c).In_ok-check in
-    let r = room g.v g.x (length g.t.now) _ _ none (facts g.v g.x (length g.t.now) fit none) c.split-split.ensures.top c.num-num.ensures in
+    let r = room g.v g.x (length g.t.now) _ _ none (facts g.v g.x (length g.t.now) fit none) (c.rungs-rungs.ensures.top ∙ c.split.ensures.top) c.num-num.ensures in
     record { some = r.0; room = rw c.fill_table.auto.t (omega (arith, r)) }
 
 pub returns : goal.returns
 unfolding refusal_of pair_of
 returns c =
     let g = c.args in
-    let o = c.split-split in
+    let o = c.split in
+    let w = c.rungs-rungs in
     let fit : T (fits binary64 g.v) = search rules in
     let k = ok (goal.at.returns c).In_ok-check in
-    let p = settled g.function g.v g.x g.t.now k (facts g.v g.x (length g.t.now) fit k) o.result.below o.result.u o.result.f o.result.n c.num-num.result
+    let p = settled g.function g.v g.x g.t.now k (facts g.v g.x (length g.t.now) fit k) w.result.sequence w.result.u w.result.n c.num-num.result
     c.fill_table.new.t
     (some (c.pair_at.result.value, c.pair_at.result.derivative))
-    o.ensures.side
-    o.ensures.shifted
-    o.ensures.fraction
-    o.ensures.top
+    (rw (o.ensures.side, o.ensures.fraction) at w.ensures.sequence)
+    (w.ensures.shifted ∙ o.ensures.shifted)
+    (w.ensures.top ∙ o.ensures.top)
     c.num-num.ensures
-    (rw c.sequence.ensures at c.fill_table.ensures)
+    c.fill_table.ensures
     (rw (c.pair_at.ensures.value, c.pair_at.ensures.derivative)) in
     record { number = sym k; pair = p.0; after = p.1 }

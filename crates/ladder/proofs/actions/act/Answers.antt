@@ -4,7 +4,7 @@ use Rattle.std.specs.Float.{binary64}
 use Rattle.std.specs.Float.Ieee.{fits}
 use Rattle.order.specs.Order.{top_rung}
 use Rattle.ladder_machine.specs.declared.Case.{Case}
-use Rattle.ladder_machine.specs.Machine.{asks, refusal, repeats, climbs, starts_over}
+use Rattle.ladder_machine.specs.Machine.{refusal, repeats, climbs, starts_over}
 use Rattle.ladder_machine.specs.Held.{verdict_of}
 use Rattle.ladder_climb.proofs.Room.{room_above_law}
 use Rattle.ladder.proofs.Outcomes.{repeat_held, climb_room, start_room, repeated_outcome, climbed_outcome, started_outcome, climbed_n, state_n}
@@ -24,10 +24,10 @@ starts-told : (c : In-StartOver) → verdict_of (Ok c.args.case) ≡ starts_over
 unfolding verdict_of
 starts-told c = ap (λ (k : Case). verdict_of (Ok k)) c.in-StartOver.is
 
-climb-fits : (c : In-Climb) → T (fits binary64 c.args.v)
+climb-fits : (c : In-Climb) → T (fits binary64 c.args.request.v)
 climb-fits c = search rules
 
-start-fits : (c : In-StartOver) → T (fits binary64 c.args.v)
+start-fits : (c : In-StartOver) → T (fits binary64 c.args.request.v)
 start-fits c = search rules
 
 -- room for a climb, and for a start-over
@@ -37,22 +37,22 @@ climbs-in : (c : In-Climb)
     (1 ≤ g.state.held.n) × (g.state.held.n < n) × (n ≤ 1000) × (n < length g.values.now) × (n ≤ length g.derivatives.now) × (g.state.held.n ≡ c.in-Climb.from)
 climbs-in c =
     let g = c.args in
-    climb_room g.state (asks g.function g.v g.x) g.values.now g.derivatives.now _ c.requires (climb-fits c) _ _ (climbs-told c)
+    climb_room g.state g.request g.values.now g.derivatives.now _ c.requires (climb-fits c) _ _ (climbs-told c)
 
 starts-in : (c : In-StartOver)
     → let g = c.args in
     let n = c.in-StartOver.n in
-    (refusal (asks g.function g.v g.x) (length g.values.now) (length g.derivatives.now) ≡ 0) × (top_rung g.v ≡ n) × (1 ≤ n) × (n ≤ 1000)
+    (refusal g.request (length g.values.now) (length g.derivatives.now) ≡ 0) × (top_rung g.request.v ≡ n) × (1 ≤ n) × (n ≤ 1000)
 starts-in c =
     let g = c.args in
-    start_room g.state (asks g.function g.v g.x) g.values.now g.derivatives.now _ c.requires (start-fits c) _ (starts-told c)
+    start_room g.state g.request g.values.now g.derivatives.now _ c.requires (start-fits c) _ (starts-told c)
 
 repeats-held : (c : In-Repeat)
     → let g = c.args in
     (1 ≤ g.state.held.n) × (g.state.held.n ≡ c.in-Repeat.field-0)
 repeats-held c =
     let g = c.args in
-    repeat_held g.state (asks g.function g.v g.x) g.values.now g.derivatives.now _ c.requires _ (repeats-told c)
+    repeat_held g.state g.request g.values.now g.derivatives.now _ c.requires _ (repeats-told c)
 
 pub answer-requires : goal.answer-requires
 answer-requires c = (repeats-held (goal.at.answer-requires c).In-Repeat).0

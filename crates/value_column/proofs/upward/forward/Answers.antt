@@ -1,13 +1,15 @@
 -- `value_column::upward::forward` meets its contract: at rung k the two below it are carried, and slots 0 to k − 1 are filled.
 use Rattle.std.proofs.Common.{◌≡◌, refl, ◌∙◌, ◌+◌, ◌-◌, arith}
 use Rattle.value_column.proofs.Turns.{climbed, climbed_slot}
+use Rattle.value_column.proofs.Room.{room_facts}
 use Rattle.value_column.proofs.Branches.{second, third, two_rungs, three_rungs}
 use Rattle.value_column.proofs.upward.forward.Goals as goal
 
-pub returns-then-top-lt2 : goal.returns-then-top-lt2
-returns-then-top-lt2 c =
+pub returns-then-n-lt2 : goal.returns-then-n-lt2
+returns-then-n-lt2 c =
     let s = c.start_rungs-start in
-    two_rungs c.args.sequence c.args.top.n c.args.t.now _ s.result.low s.result.high (omega arith) s.ensures refl
+    let room = room_facts _ _ c.requires in
+    two_rungs c.args.rungs.sequence c.args.rungs.n c.args.t.now _ s.result.low s.result.high (omega arith) s.ensures refl
 
 pub loop-k-init : goal.loop-k-init
 loop-k-init c =
@@ -17,9 +19,9 @@ loop-k-init c =
     record {
       from = omega arith;
       to = omega arith;
-      low = c.up-two.ensures.low ∙ second g.sequence s.result.low s.result.high s.ensures;
-      high = c.up-two.ensures.high ∙ third g.sequence s.result.low s.result.high w.result s.ensures w.ensures;
-      slots = three_rungs g.sequence g.top.n g.t.now g.t.now s.result.low s.result.high w.result s.ensures w.ensures;
+      low = c.up-two.ensures.low ∙ second g.rungs.sequence s.result.low s.result.high s.ensures;
+      high = c.up-two.ensures.high ∙ third g.rungs.sequence s.result.low s.result.high w.result s.ensures w.ensures;
+      slots = three_rungs g.rungs.sequence g.rungs.n g.t.now g.t.now s.result.low s.result.high w.result s.ensures w.ensures;
     }
 
 pub loop-k-preserved : goal.loop-k-preserved
@@ -27,7 +29,7 @@ loop-k-preserved c =
     let g = c.args in
     let l = c.loop-k in
     let i = l.invariant in
-    let w = climbed g.sequence l.k l.two.low l.two.high c.step-value.result i.from i.low i.high c.step-value.ensures in
+    let w = climbed g.rungs.sequence l.k l.two.low l.two.high c.step-value.result i.from i.low i.high c.step-value.ensures in
     let e : l.k + 1 - 2 ≡ l.k - 1 = omega arith in
     let h : l.k + 1 - 1 ≡ l.k = omega arith in
     record {
@@ -35,17 +37,17 @@ loop-k-preserved c =
       to = omega arith;
       low = c.up-two-in-loop-k.ensures.low ∙ rw e i.high;
       high = c.up-two-in-loop-k.ensures.high ∙ rw h w;
-      slots = climbed_slot g.sequence l.k c.step-value.result l.t g.t.now i.slots w;
+      slots = climbed_slot g.rungs.sequence l.k c.step-value.result l.t g.t.now i.slots w;
     }
 
-pub returns-else-top-lt2 : goal.returns-else-top-lt2
-returns-else-top-lt2 c = let e : c.loop-k.k ≡ c.args.top.n + 1 = omega arith in rw (← e) c.loop-k.invariant.slots
+pub returns-else-n-lt2 : goal.returns-else-n-lt2
+returns-else-n-lt2 c = let e : c.loop-k.k ≡ c.args.rungs.n + 1 = omega arith in rw (← e) c.loop-k.invariant.slots
 
-pub returns-else-top-lt2-2 : goal.returns-else-top-lt2-2
-returns-else-top-lt2-2 c =
+pub returns-else-n-lt2-2 : goal.returns-else-n-lt2-2
+returns-else-n-lt2-2 c =
     let g = c.args in
     let l = c.loop-k in
     let i = l.invariant in
-    let w = climbed g.sequence l.k l.two.low l.two.high c.step-value.result i.from i.low i.high c.step-value.ensures in
-    let e : l.k ≡ g.top.n = omega arith in
-    rw (← e) (climbed_slot g.sequence l.k c.step-value.result l.t g.t.now i.slots w)
+    let w = climbed g.rungs.sequence l.k l.two.low l.two.high c.step-value.result i.from i.low i.high c.step-value.ensures in
+    let e : l.k ≡ g.rungs.n = omega arith in
+    rw (← e) (climbed_slot g.rungs.sequence l.k c.step-value.result l.t g.t.now i.slots w)

@@ -1,8 +1,8 @@
 -- What each test of a program says of NaN, of the infinities and of the sign.
 use Rattle.std.proofs.Common.{◌≡◌, refl, sym, ap, ◌∙◌, subst, ℕ, ◌+◌, ◌*◌, ◌%◌, ◌<◌, ◌≤◌, mod-eq_of_lt, arith, Bool}
 use Rattle.std.proofs.Common.{true, false, not, ◌&&◌, cond, eq-eqb, eqb-true, le-ltb, ltb-true, T, eqb, ℤ}
-use Rattle.std.specs.Float.{Float, nan, inf, fin, binary64}
-use Rattle.std.specs.Float.Ieee.{up, down, neg, lt, eq, ne, fits, is_nan, nan_bits, of_bits, to_bits}
+use Rattle.std.specs.Float.{Float, nan, inf, fin, binary64, float_is_infinite}
+use Rattle.std.specs.Float.Ieee.{up, down, neg, lt, ne, fits, is_nan, nan_bits, of_bits, to_bits}
 use Rattle.std.proofs.Math.Nat.{add-mod_left}
 use Rattle.std.specs.Float.Ieee.Bits.{of_bits-to_bits, to_bits-lt, nan_bits_is}
 use Rattle.std.specs.Float.Ieee.Compare.{differs_from_itself}
@@ -33,21 +33,12 @@ pub negative_infinity_is : bits 0xfff0_0000_0000_0000 ≡ inf true
 unfolding of_bits
 negative_infinity_is = refl
 
-pub infinite_plus : (x : Float) → eq x (inf false) ≡ true → infinite x ≡ true
-unfolding eq infinite
-infinite_plus nan h = cc
-infinite_plus (inf s) h = refl
-infinite_plus (fin s m e) h = cc
-
-pub infinite_minus : (x : Float) → eq x (inf false) ≡ false → infinite x ≡ eq x (inf true)
-unfolding eq infinite
-infinite_minus nan h = refl
-infinite_minus (inf true) h = refl
-infinite_minus (inf false) h = cc
-infinite_minus (fin s m e) h = refl
-
--- what `is_infinite` takes
-pub ruleset infinity_laws = (infinity_is, negative_infinity_is, infinite_plus, infinite_minus)
+-- the library's test
+pub infinite_is : (x : Float) → float_is_infinite x ≡ infinite x
+unfolding float_is_infinite infinite
+infinite_is nan = refl
+infinite_is (inf s) = refl
+infinite_is (fin s m e) = refl
 
 -- ---- floats that are alike are equal: values that fit are told apart by their patterns, and there is one NaN
 

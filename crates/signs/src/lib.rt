@@ -35,12 +35,11 @@ pub fn alike(a: f64, b: f64) -> bool
 }
 
 // Whether x is one of the two infinities.
-// Two comparisons, since the library's `is_infinite` subtracts first, and gamma's products take a test in each turn.
-#[tactic(auto, using(crate::proofs::Signs::infinity_laws))]
+#[tactic(auto, using(crate::proofs::Signs::infinite_is))]
 pub fn is_infinite(x: f64) -> bool
     ensures { result ≡ infinite x }
 {
-    x == f64::INFINITY || x == f64::NEG_INFINITY
+    x.is_infinite()
 }
 
 // 1 with the sign of x, a zero's too. A NaN stays.

@@ -8,9 +8,6 @@ use Rattle.ladder.specs.Ladder.{written_of, pair_in, given_by, pair_then, given_
 use Rattle.ladder.proofs.Outcomes.{refused_outcome, judged}
 use Rattle.ladder.proofs.request.Goals as goal
 
-pub act-requires : goal.act-requires
-act-requires c = c.in-Ok.ensures
-
 pub returns-in-Ok : goal.returns-in-Ok
 returns-in-Ok c = c.act.ensures ∙ judged _ _ _ _ _ c.in-Ok.ensures
 

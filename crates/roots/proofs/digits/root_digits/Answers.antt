@@ -1,10 +1,7 @@
 -- `roots::digits::root_digits` meets its contract. The loop's invariant is `Found`: the digits that are left, at their scale.
 use Rattle.std.proofs.Common.{arith}
-use Rattle.roots.proofs.RootDigits.{found_none, partial, found_turn, found_all}
+use Rattle.roots.proofs.RootDigits.{partial, found_turn, found_all}
 use Rattle.roots.proofs.digits.root_digits.Goals as goal
-
-pub loop-init : goal.loop-init
-loop-init c = found_none _ (omega (arith, c.args.radicand.in_range.1))
 
 pub next_digit-s-requires : goal.next_digit-s-requires
 next_digit-s-requires c = partial _ _ _ _ _ (omega arith) c.loop.invariant

@@ -24,7 +24,7 @@ use Rattle.gozhnerim_structs.specs.Answers.{pair_or_nan}
 use Rattle.gozhnerim_structs.specs.Ladders.{function_of, ladder_by, ladder_in, ladder_out, handed_back, count_of, reply_of}
 use Rattle.gozhnerim_lists.specs.Requests.{requested_in_c}
 use Rattle.gozhnerim_lists.specs.Lists.{state_in_c, answered_in_c, begun_with, says_in_c, ClimbedInC, StateRightInC}
-use Rattle.gozhnerim_lists.proofs.Lists.{begun_is, handed_on}
+use Rattle.gozhnerim_lists.proofs.Lists.{same_number, begun_is, handed_on}
 
 same_written : (g g' : ℕ → Float) (a n : ℕ) (l l' : List Float) → ((k : ℕ) → g k ≡ g' k) → JustWritten g a n l l' → JustWritten g' a n l l'
 same_written g g' a n l l' e j = record { same_length = j.same_length; slots = λ k h b. j.slots k h b ∙ e k; others = j.others }
@@ -65,7 +65,7 @@ module _ (table : Request → List Float) (long : Long table) (held : GozhnerimL
   -- it goes out with a new n and new values
   goes_out : s ≡ read → (n : ℕ) (low high : Float) → ladder_out (state_of (sequence_in s) n low high) ≡ state_in_c q held.x held.f n low high
   unfolding ladder_out
-  goes_out r n low high = ap (λ (z : Ladder). ladder_out (state_of (sequence_in z) n low high)) r
+  goes_out r n low high = ap (λ (z : Ladder). ladder_out (state_of (sequence_in z) n low high)) r ∙ rw (same_number q.function)
 
   -- ---- the cases
 
@@ -93,7 +93,7 @@ module _ (table : Request → List Float) (long : Long table) (held : GozhnerimL
       let p = means (repeats n) e in
       let r = is_read p.2 p.3 in
       let top : held.n ≡ n = sym (ap (λ (z : Ladder). z.held.n) r) ∙ p.4 in
-      (top, p.1, rw ((right.repeat n (sym same_says ∙ e)).2, r, top))
+      (top, p.1, rw ((right.repeat n (sym same_says ∙ e)).2, r, top, same_number q.function))
 
   climb_in_c : (m n : ℕ) → says_in_c held (ask q l d) ≡ climbs m n → (held.n ≡ m) × (top_rung q.v ≡ n) × (2 ≤ m) × (m < n)
       × ClimbedInC held q m n l d (requested_in_c held q l d)
@@ -129,7 +129,7 @@ module _ (table : Request → List Float) (long : Long table) (held : GozhnerimL
   start_in_c n e =
       let p = means (starts_over n) e in
       let known = known_request q (length l) (length d) number.0 number.1 p.0 in
-      (p.1, rw ((right.start_over n number (sym same_says ∙ e)).1, table_answer q known table long, p.1))
+      (p.1, rw ((right.start_over n number (sym same_says ∙ e)).1, table_answer q known table long, p.1, same_number q.function))
 
   machine_in_c : begun_with (requested_in_c held q l d).reply.ladder ≡ next (begun_with held) (fed (ask q l d))
   machine_in_c =

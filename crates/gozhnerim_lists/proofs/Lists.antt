@@ -2,7 +2,9 @@
 -- the ladder's turns, of which demand 3 speaks; and what is due to a call of the ladder is, in C, what is due there.
 use Rattle.std.proofs.Common.{◌≡◌, refl, sym, ap, ◌∙◌, true, List, [], ◌∷◌, map, ne_eqb, length, Float}
 use Rattle.std.proofs.Math.Option.{Option, some, none}
+use Rattle.floats.specs.Numbers.{function_number}
 use Rattle.floats.specs.declared.Function.{Function}
+use Rattle.floats.specs.declared.Function.TheVariants.{D, «V»}
 use Rattle.ladder_machine.specs.declared.Request.{Request}
 use Rattle.ladder_machine.specs.Machine.{Inputs, request, asked, Machine, empty, Verdict, refuses, repeats, climbs, starts_over, refused_by, effect, verdict, next, verdicts}
 use Rattle.ladder_machine.specs.Held.{counts_empty, machine_of}
@@ -20,9 +22,15 @@ use Rattle.gozhnerim_structs.specs.Answers.{pair_or_nan}
 use Rattle.gozhnerim_structs.specs.Ladders.{function_of, ladder_by, ladder_in, ladder_out, handed_back, count_of, reply_of}
 use Rattle.gozhnerim_structs.proofs.Laws.{in_handed_back}
 use Rattle.gozhnerim_lists.specs.Requests.{OutcomeInC, requested_in_c}
-use Rattle.gozhnerim_lists.specs.Lists.{called_in_c, calls_in_c, lent_in_c, last_in_c, function_in, begun_by, begun_with, reply_due, due_in_c, due_all_in_c}
+use Rattle.gozhnerim_lists.specs.Lists.{called_in_c, calls_in_c, lent_in_c, last_in_c, function_in, begun_by, begun_with, number_in, reply_due, due_in_c, due_all_in_c}
 
 -- ---- the state
+
+-- the number that goes out is the theorem's own
+pub same_number : (function : Function) → function_number function ≡ number_in function
+unfolding number_in
+same_number D = refl
+same_number «V» = refl
 
 -- the machine begun with a state in C is the one begun with the ladder that it is
 begun_by_law : (o : Option Function) (held : GozhnerimLadder) → begun_by o held ≡ machine_of (held_in (ladder_by o held))
@@ -63,13 +71,13 @@ module _ (table : Request → List Float) (long : Long table) where
   due_in_c_law held s q f l d m (refuses number) a = rw (ne_eqb number 0 a.1, written_refuses number)
   due_in_c_law held s q f l d m (repeats n) a =
       let known = known_request q (length l) (length d) f.0 f.1 a.0 in
-      rw (written_repeats n, table_answer q known table long, a.1)
+      rw (written_repeats n, table_answer q known table long, a.1, same_number q.function)
   due_in_c_law held s q f l d m (climbs i n) a =
       let known = known_request q (length l) (length d) f.0 f.1 a.0 in
-      rw (written_climbs i n, table_answer q known table long, a.1)
+      rw (written_climbs i n, table_answer q known table long, a.1, same_number q.function)
   due_in_c_law held s q f l d m (starts_over n) a =
       let known = known_request q (length l) (length d) f.0 f.1 a.0 in
-      rw (written_starts_over n, table_answer q known table long, a.1)
+      rw (written_starts_over n, table_answer q known table long, a.1, same_number q.function)
 
   one_due : (held : GozhnerimLadder) (s : Ladder) (m : Machine) (i : Inputs) → Number i → (l d : List Float)
       → let c : Call = record { inputs = i; values = l; derivatives = d } in

@@ -7,7 +7,6 @@ use Rattle.std.specs.Prelude.{◌≡◌, List, [], ◌∷◌, map, ℕ, ◌+◌,
 use Rattle.std.proofs.Math.Option.{Option, some, none}
 use Rattle.std.specs.Float.{nan}
 use Rattle.order.specs.Order.{below, fraction_of, top_rung}
-use Rattle.floats.specs.Numbers.{function_number}
 use Rattle.floats.specs.declared.Function.{Function}
 use Rattle.floats.specs.declared.Function.TheVariants.{D, «V»}
 use Rattle.recurrence.specs.Recurrence.{step}
@@ -64,10 +63,14 @@ begun_with s = begun_by (function_in s.function) s
 
 -- ---- what is due to a call, where `held` is the state given and the machine has spoken
 
+unfoldable pub number_in : Function → ℕ
+number_in D = 1
+number_in «V» = 2
+
 -- the state handed out for a request: every field
 abbrev pub state_in_c : Request → Float → Float → ℕ → Float → Float → GozhnerimLadder
 state_in_c q x f n low high = record {
-  function = function_number q.function;
+  function = number_in q.function;
   below_zero = cond (below q.v) 1 0;
   n = n;
   reserved = 0 ∷ 0 ∷ 0 ∷ [];

@@ -27,23 +27,26 @@ extern "C" {
 #endif
 
 /*
- * The version of this header, 0.2.1: 10000 times the first number, 100 times the second, and the third.
+ * The version of this header, 0.3.0: 10000 times the first number, 100 times the second, and the third.
  * gozhnerim_version() gives that of the library linked; a header and a library of different versions do
  * not go together.
  */
-#define GOZHNERIM_VERSION 201
+#define GOZHNERIM_VERSION 300
 uint32_t gozhnerim_version(void);
 
 /*
- * Refusals. The tests are made by rising number. A refused call writes to no table.
+ * Refusals. The tests are made by rising number, those of the tested reader in the order 6, 3, 7. A refused
+ * call writes to no table.
  */
 enum {
     GOZHNERIM_ANSWERED = 0,      /* no refusal */
     GOZHNERIM_NAN = 1,           /* an input number is NaN; slots and a state's fields are no inputs */
     GOZHNERIM_ORDER_SIZE = 2,    /* tables and ladder: the size of v is 1000 or more */
-    GOZHNERIM_TABLE_SHORT = 3,   /* tables and ladder: a table has too few slots */
+    GOZHNERIM_TABLE_SHORT = 3,   /* tables, ladder and tested reader: a table has too few slots */
     GOZHNERIM_ORDER_RANGE = 4,   /* expansion: not -2147483648 < v <= -20 */
-    GOZHNERIM_INFINITE = 5       /* expansion: x is infinite; series: an input is infinite */
+    GOZHNERIM_INFINITE = 5,      /* expansion: x is infinite; series: an input is infinite */
+    GOZHNERIM_NOT_FORWARD = 6,   /* tested reader: the state counts as empty or does not run forward */
+    GOZHNERIM_RUNG_DIFFERS = 7   /* tested reader: a rung in the tables is not the state's */
 };
 
 /* The numbers of the functions in a ladder's state, and of the columns. */
@@ -157,6 +160,30 @@ uint32_t gozhnerim_case(gozhnerim_reply reply);
  */
 size_t gozhnerim_column(const double *values, size_t values_len, const double *derivatives,
                         size_t derivatives_len, uint32_t which, size_t c);
+
+typedef struct {
+    uint32_t refusal;  /* 0: all rungs are the state's; else the number of the refusal */
+    size_t length;     /* so many slots of the column named are lent back; 0 with a refusal */
+} gozhnerim_part;
+
+/*
+ * The tested reader: lends the column named by `which` back only where both tables, whoever wrote to them,
+ * hold all rungs of the state. It takes states whose branch runs forward. In this order it gives
+ * - 6 where the state counts as empty, or its branch does not run forward at its n (see gozhnerim_ladder_d);
+ * - 3 where `values` has fewer than n + 1 slots or `derivatives` fewer than n;
+ * - 7 where one of the values 0 to n or of the derivatives 0 to n - 1 differs, be it in one bit; any NaN
+ *   does for another. Values 0 and 1 are held to rungs worked out afresh from the state's function, side, x
+ *   and f, each later value to one step of the recurrence over the two slots before it (value 2 of V with
+ *   v < 0 and f = 0 to x times slot 1), and derivative k to its formula over values k and k + 1.
+ * Both tables are tested, whichever column is named. value_below, value_top and reserved play no part, nor
+ * do slots above the rungs. For a state that gozhnerim_ladder_d and _v handed out, the first of them given
+ * an empty one, 0 then means just that all rungs are those of the table call for the last request that was
+ * not refused.
+ * The part lent back begins at slot 0 of the column's table: n + 1 values or n derivatives. Where `which`
+ * names neither column, the tests are the same, and the length is 0.
+ */
+gozhnerim_part gozhnerim_tested_column(gozhnerim_ladder held, const double *values, size_t values_len,
+                                       const double *derivatives, size_t derivatives_len, uint32_t which);
 
 /* A ladder that holds nothing. */
 static inline gozhnerim_ladder gozhnerim_empty_ladder(void)

@@ -1,5 +1,6 @@
 /*
- * What the tests of the C interface share: a check that counts, floats by their bits, and slots that are marked.
+ * What the tests of the C interface share: a check that counts, floats by their bits, slots that are marked, and a
+ * ladder's two tables.
  */
 #ifndef GOZHNERIM_CHECKS_H
 #define GOZHNERIM_CHECKS_H
@@ -75,8 +76,34 @@ static inline int answered(gozhnerim_answer a, double value, double derivative)
     return a.refusal == GOZHNERIM_ANSWERED && same(a.value, value) && same(a.derivative, derivative);
 }
 
+enum { D = GOZHNERIM_D, V = GOZHNERIM_V, SLOTS = GOZHNERIM_VALUE_SLOTS + 1 };
+
+/* The two tables that a ladder is lent. */
+typedef struct {
+    double values[SLOTS], derivatives[SLOTS];
+} tables;
+
+static inline tables marked(void)
+{
+    tables t;
+    fill(t.values, SLOTS);
+    fill(t.derivatives, SLOTS);
+    return t;
+}
+
+static inline int same_tables(const tables *a, const tables *b)
+{
+    return memcmp(a, b, sizeof *a) == 0;
+}
+
 /* The ladder's tests: tests/ladder.c. */
 void ladder_tests(void);
+
+/* The tested reader's: tests/tested_reader.c. */
+void tested_reader_tests(void);
+
+/* Whether the tested reader gives what it has to for a state and tables that hold all its rungs, or not all. */
+int reads_as_due(gozhnerim_ladder held, const tables *t, int all);
 
 #ifdef __cplusplus
 }

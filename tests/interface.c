@@ -1,6 +1,7 @@
 /*
  * Calls each function of include/gozhnerim.h: here the scope paper's examples P5 to P10 and the refusals of the calls
- * that hold nothing, the ladder's in tests/ladder.c. Compiled as C and as C++ by tests/run.
+ * that hold nothing, the ladder's in tests/ladder.c and the tested reader's in tests/tested_reader.c. Compiled as C and
+ * as C++ by tests/run.
  */
 #include "checks.h"
 
@@ -145,6 +146,7 @@ int main(void)
     split();
     column();
     ladder_tests();
+    tested_reader_tests();
     printf("C interface: %d failures\n", failures);
     return failures != 0;
 }

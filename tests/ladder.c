@@ -17,13 +17,6 @@ static int refused_reply(gozhnerim_reply r, gozhnerim_ladder held, uint32_t numb
         && same_state(r.ladder, held);
 }
 
-enum { D = GOZHNERIM_D, V = GOZHNERIM_V, SLOTS = GOZHNERIM_VALUE_SLOTS + 1 };
-
-/* The two tables that a ladder is lent. */
-typedef struct {
-    double values[SLOTS], derivatives[SLOTS];
-} tables;
-
 /* A request, the lengths lent, and what the ladder machine says of it: written by hand. */
 typedef struct {
     uint32_t function;
@@ -31,19 +24,6 @@ typedef struct {
     size_t values_len, derivatives_len;
     uint32_t refusal, n, written;
 } request;
-
-static tables marked(void)
-{
-    tables t;
-    fill(t.values, SLOTS);
-    fill(t.derivatives, SLOTS);
-    return t;
-}
-
-static int same_tables(const tables *a, const tables *b)
-{
-    return memcmp(a, b, sizeof *a) == 0;
-}
 
 static gozhnerim_reply ask(gozhnerim_ladder held, const request *q, tables *t)
 {
@@ -97,7 +77,8 @@ static uint32_t case_due(const request *q)
 
 /*
  * Makes a request twice: on the tables that the last one left, where then all rungs are the table call's,
- * and on tables full of marks, where just as many as the count says are. Gives the next state.
+ * and on tables full of marks, where just as many as the count says are. So the tested reader finds all rungs in
+ * the first, and in the second after a start-over alone. Gives the next state.
  */
 static gozhnerim_ladder check_request(gozhnerim_ladder held, const request *q, tables *lent)
 {
@@ -118,6 +99,7 @@ static gozhnerim_ladder check_request(gozhnerim_ladder held, const request *q, t
     CHECK(same(again.value, r.value) && same(again.derivative, r.derivative));
     CHECK(rungs_from(0, q, table, lent, &found));
     CHECK(rungs_from(q->n + 1 - q->written, q, table, &fresh, &marks));
+    CHECK(reads_as_due(r.ladder, lent, 1) && reads_as_due(r.ladder, &fresh, q->written == q->n + 1));
     return r.ladder;
 }
 

@@ -84,6 +84,14 @@ pub struct Reply {
     pub derivative: f64,
 }
 
+/// `gozhnerim_part`.
+#[repr(C)]
+#[derive(Clone, Copy)]
+pub struct Part {
+    pub refusal: u32,
+    pub length: usize,
+}
+
 unsafe extern "C" {
     safe fn gozhnerim_version() -> u32;
     safe fn gozhnerim_split(v: f64) -> Order;
@@ -118,6 +126,14 @@ unsafe extern "C" {
         which: u32,
         c: usize,
     ) -> usize;
+    fn gozhnerim_tested_column(
+        held: RawState,
+        values: *const f64,
+        values_len: usize,
+        derivatives: *const f64,
+        derivatives_len: usize,
+        which: u32,
+    ) -> Part;
 }
 
 /// The version of the library.
@@ -182,6 +198,23 @@ pub fn column(values: &[f64], derivatives: &[f64], which: u32, c: usize) -> usiz
     unsafe { gozhnerim_column(values, values_len, derivatives, derivatives_len, which, c) }
 }
 
+/// How many slots of the column numbered `which` the tested reader lends back.
+pub fn tested_column(held: RawState, values: &[f64], derivatives: &[f64], which: u32) -> Part {
+    let (values_len, derivatives_len) = (values.len(), derivatives.len());
+    let (values, derivatives) = (values.as_ptr(), derivatives.as_ptr());
+    // SAFETY: pointers and lengths are those of two slices, which are only read.
+    unsafe {
+        gozhnerim_tested_column(
+            held,
+            values,
+            values_len,
+            derivatives,
+            derivatives_len,
+            which,
+        )
+    }
+}
+
 #[cfg(test)]
 mod tests {
     use super::*;
@@ -223,6 +256,7 @@ mod tests {
                 state "ladder", refusal "refusal", written "written", value "value",
                 derivative "derivative"
             ),
+            layout!("gozhnerim_part", Part, refusal "refusal", length "length"),
         ]
     }
 

@@ -1,4 +1,4 @@
-//! The column reader.
+//! The column reader, and how a column is named.
 
 use crate::c;
 
@@ -21,6 +21,16 @@ pub enum Column {
     Derivatives,
 }
 
+impl Column {
+    /// The column's table, one of a ladder's two, and its number in the C interface.
+    pub(crate) fn of<'a>(self, values: &'a [f64], derivatives: &'a [f64]) -> (&'a [f64], u32) {
+        match self {
+            Column::Values => (values, 1),
+            Column::Derivatives => (derivatives, 2),
+        }
+    }
+}
+
 /// The first c slots of one of a ladder's two tables, or an empty slice where c exceeds its length.
 ///
 /// ```
@@ -33,10 +43,7 @@ pub enum Column {
 /// ```
 #[must_use]
 pub fn column<'a>(values: &'a [f64], derivatives: &'a [f64], which: Column, c: usize) -> &'a [f64] {
-    let (named, number) = match which {
-        Column::Values => (values, 1),
-        Column::Derivatives => (derivatives, 2),
-    };
+    let (named, number) = which.of(values, derivatives);
     let lent = c::column(values, derivatives, number, c);
     named.get(..lent).unwrap_or(&[])
 }

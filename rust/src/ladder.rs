@@ -145,6 +145,31 @@ impl Ladder {
         column(self.values(), self.derivatives(), which, c)
     }
 
+    /// The tested reader: all rungs held of a column, lent only where both tables still hold what
+    /// they have to. [`State::tested`] says how that is tested.
+    ///
+    /// # Errors
+    ///
+    /// Refusal 6 where the ladder holds nothing or its branch does not run forward, 7 where a rung
+    /// differs. No part of a Rust program that keeps to safe code can write to the tables, so 7 means
+    /// damaged memory or other code at fault.
+    ///
+    /// ```
+    /// use gozhnerim::{Column, Ladder, Refusal};
+    ///
+    /// let mut ladder = Ladder::new();
+    /// ladder.d(2.0, 0.0)?;
+    /// assert_eq!(ladder.tested(Column::Values)?, [1.0, 0.0, -1.0, -0.0]);
+    ///
+    /// // D of an order below 0 runs forward only up to x = 0.
+    /// ladder.d(-2.5, 1.0)?;
+    /// assert_eq!(ladder.tested(Column::Values), Err(Refusal::NotForward));
+    /// # Ok::<(), Refusal>(())
+    /// ```
+    pub fn tested(&self, which: Column) -> Result<&[f64], Refusal> {
+        self.state.tested(&self.values, &self.derivatives, which)
+    }
+
     /// A copy of the state.
     ///
     /// ```
@@ -178,5 +203,39 @@ impl Ladder {
         for table in [&mut self.values, &mut self.derivatives] {
             table.resize(slots.max(table.len()), 0.0);
         }
+    }
+}
+
+#[cfg(test)]
+mod tests {
+    use super::*;
+
+    /// Changes one slot after the other of a ladder's own tables, as no caller can.
+    #[test]
+    fn a_damaged_table_is_refused_and_a_start_over_repairs_it() {
+        let mut whole = Ladder::new();
+        for v in [2.5, 4.5, 7.5] {
+            whole.d(v, 1.5).unwrap();
+        }
+        let refused = Err(Refusal::RungDiffers);
+        let (values, derivatives) = (whole.values().len(), whole.derivatives().len());
+        for slot in 0..values + derivatives {
+            let mut ladder = whole.clone();
+            match slot.checked_sub(values) {
+                None => ladder.values[slot] += 1.0,
+                Some(slot) => ladder.derivatives[slot] += 1.0,
+            }
+            assert_eq!(ladder.tested(Column::Values), refused, "slot {slot}");
+            assert_eq!(ladder.tested(Column::Derivatives), refused, "slot {slot}");
+            ladder.d(9.5, 1.5).unwrap();
+            assert_eq!(ladder.tested(Column::Values), refused, "slot {slot}");
+            ladder.clear();
+            ladder.d(9.5, 1.5).unwrap();
+            assert_eq!(ladder.tested(Column::Values).unwrap(), ladder.values());
+        }
+        assert_eq!(
+            whole.tested(Column::Derivatives).unwrap(),
+            whole.derivatives()
+        );
     }
 }

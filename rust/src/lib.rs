@@ -12,6 +12,8 @@
 //! - [`d_table`] and [`v_table`] work out all rungs of one request into a table.
 //! - A [`Ladder`] holds its rungs between requests. When a higher order comes it climbs: it works out
 //!   only the rungs that are new. [`State`] is the same over tables that the caller lends.
+//! - [`Ladder::tested`] and [`State::tested`] lend a column only where every rung in the tables is the
+//!   right one, whoever wrote to them.
 //! - [`d_expansion`] is D at large negative orders, [`maclaurin`] the series at 0.
 //! - [`unmirrored`] compares tables of D at x and at −x.
 //!

@@ -6,8 +6,8 @@ use std::num::NonZeroU32;
 
 /// Why a call gave no answer. A refused call writes to no table and leaves a ladder as it was.
 ///
-/// The tests are made by rising number, and the first that applies is given. The message says what
-/// happened and what to do next.
+/// The tests are made by rising number, those of the tested reader in the order 6, 3, 7, and the
+/// first that applies is given. The message says what happened and what to do next.
 ///
 /// ```
 /// use gozhnerim::{Refusal, d_table};
@@ -25,12 +25,17 @@ pub enum Refusal {
     NotANumber,
     /// 2: tables and ladder: the size of the order is 1000 or more.
     OrderTooLarge,
-    /// 3: tables and ladder: a table has too few slots. A [`Ladder`](crate::Ladder) never gives it.
+    /// 3: tables, ladder and tested reader: a table has too few slots. A
+    /// [`Ladder`](crate::Ladder) never gives it.
     TableTooShort,
     /// 4: expansion: the order is not in −2147483648 < v ≤ −20.
     OrderOutsideExpansion,
     /// 5: expansion: x is infinite; series: an input is infinite.
     Infinite,
+    /// 6: tested reader: the state counts as empty, or its branch does not run forward.
+    NotForward,
+    /// 7: tested reader: a rung in the tables is not the state's.
+    RungDiffers,
     /// A number that this package has no name for. The library that goes with this package gives none.
     Unknown(NonZeroU32),
 }
@@ -52,6 +57,8 @@ impl Refusal {
             Refusal::TableTooShort => 3,
             Refusal::OrderOutsideExpansion => 4,
             Refusal::Infinite => 5,
+            Refusal::NotForward => 6,
+            Refusal::RungDiffers => 7,
             Refusal::Unknown(number) => number.get(),
         }
     }
@@ -73,6 +80,8 @@ impl Refusal {
             3 => Some(Refusal::TableTooShort),
             4 => Some(Refusal::OrderOutsideExpansion),
             5 => Some(Refusal::Infinite),
+            6 => Some(Refusal::NotForward),
+            7 => Some(Refusal::RungDiffers),
             _ => NonZeroU32::new(number).map(Refusal::Unknown),
         }
     }
@@ -100,6 +109,16 @@ impl Refusal {
                 "an input is infinite; the expansion and the series take finite numbers, so look \
                  for an overflow where the input was worked out"
             }
+            Refusal::NotForward => {
+                "the ladder holds nothing or its branch does not run forward, so no rung is tested; \
+                 make a request first, and where the branch does not run forward compare the rungs \
+                 with the slots of a table call for the same order and argument"
+            }
+            Refusal::RungDiffers => {
+                "a rung in the tables is not the one that belongs to the ladder's state; find out \
+                 which other part wrote to the tables, or whether they are another ladder's, and \
+                 make the request again on an empty ladder, which writes every rung"
+            }
             Refusal::Unknown(_) => {
                 "this package has no words for it; take the package that belongs to the library \
                  linked"
@@ -122,7 +141,7 @@ mod tests {
 
     #[test]
     fn numbers_read_back() {
-        for number in 1..=5 {
+        for number in 1..=7 {
             let refusal = Refusal::from_number(number).unwrap();
             assert!(!matches!(refusal, Refusal::Unknown(_)));
             assert_eq!(refusal.number(), number);
@@ -131,7 +150,7 @@ mod tests {
 
     #[test]
     fn messages_say_what_happened_and_what_to_do() {
-        for number in 1..=6 {
+        for number in 1..=8 {
             let text = Refusal::from_number(number).unwrap().to_string();
             assert!(text.starts_with(&format!("refusal {number}: ")), "{text}");
             assert!(text.contains("; "), "{text}");
@@ -141,7 +160,7 @@ mod tests {
 
     #[test]
     fn unknown_numbers_have_words_too() {
-        for number in [6, 17, 40, u32::MAX] {
+        for number in [8, 17, 40, u32::MAX] {
             let refusal = Refusal::from_number(number).unwrap();
             assert!(matches!(refusal, Refusal::Unknown(_)));
             assert_eq!(refusal.number(), number);

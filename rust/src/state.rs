@@ -1,6 +1,6 @@
 //! A ladder's state, over tables that the caller lends.
 
-use crate::{Function, RawState, Refusal, Reply, c};
+use crate::{Column, Function, RawState, Refusal, Reply, c};
 
 /// The largest n of a state that is not empty.
 const LARGEST_N: u32 = 1000;
@@ -110,6 +110,55 @@ impl State {
         let reply = c::request(self.raw, function, (v, x), values, derivatives);
         self.raw = reply.state;
         reply.try_into()
+    }
+
+    /// The tested reader: a column of two tables, lent back only where both hold all rungs of this
+    /// state, whoever wrote to them: values 0 to n, or derivatives 0 to n − 1.
+    ///
+    /// It is for branches that run forward: D with v ≥ 0; D with v < 0 and x ≤ 0; V with v < 0; V
+    /// with v ≥ 0, x < 0 and not both |x| ≤ 10 and n + f ≤ x²/2.
+    ///
+    /// Both tables are tested, whichever column is named. Values 0 and 1 are held to rungs worked out
+    /// afresh from function, side, x and f, each later value to one step of the recurrence over the
+    /// two slots before it, and derivative k to its formula over values k and k + 1: by their bits,
+    /// but any NaN does for another. The state's two values play no part.
+    ///
+    /// Where requests left this state, the first of them made on an empty one, a column is lent just
+    /// where all rungs are those of the table call for the last request that was not refused. Of the
+    /// library that is proved.
+    ///
+    /// # Errors
+    ///
+    /// In this order: refusal 6 where the state counts as empty or its branch does not run forward,
+    /// 3 where `values` has fewer than n + 1 slots or `derivatives` fewer than n, 7 where a rung
+    /// differs.
+    ///
+    /// ```
+    /// use gozhnerim::{Column, Function, Refusal, State};
+    ///
+    /// let (mut values, mut derivatives) = ([0.0; 8], [0.0; 7]);
+    /// let mut state = State::EMPTY;
+    /// state.request(Function::D, 2.0, 0.0, &mut values, &mut derivatives)?;
+    /// let tested = state.tested(&values, &derivatives, Column::Values)?;
+    /// assert_eq!(tested, [1.0, 0.0, -1.0, -0.0]);
+    ///
+    /// derivatives[1] = 0.0;
+    /// let refused = state.tested(&values, &derivatives, Column::Values);
+    /// assert_eq!(refused, Err(Refusal::RungDiffers));
+    /// # Ok::<(), Refusal>(())
+    /// ```
+    pub fn tested<'a>(
+        &self,
+        values: &'a [f64],
+        derivatives: &'a [f64],
+        which: Column,
+    ) -> Result<&'a [f64], Refusal> {
+        let (named, number) = which.of(values, derivatives);
+        let part = c::tested_column(self.raw, values, derivatives, number);
+        match Refusal::from_number(part.refusal) {
+            Some(refusal) => Err(refusal),
+            None => Ok(named.get(..part.length).unwrap_or(&[])),
+        }
     }
 
     /// Whether the state holds nothing. A state from elsewhere counts as empty also where its

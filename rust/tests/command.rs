@@ -305,6 +305,7 @@ fn help_and_version() {
             "mirror ORDER ARGUMENT",
             "derivative-differs",
             "tower1: release",
+            "checked RUNGS",
             "not-held",
             "byte order mark",
             "4024000000000000.0",

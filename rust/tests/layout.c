@@ -45,5 +45,10 @@ int main(void)
     FIELD(gozhnerim_reply, value);
     FIELD(gozhnerim_reply, derivative);
     printf("\n");
+
+    STRUCT(gozhnerim_part);
+    FIELD(gozhnerim_part, refusal);
+    FIELD(gozhnerim_part, length);
+    printf("\n");
     return 0;
 }

@@ -8,6 +8,7 @@ mod ladder;
 mod refusals;
 mod report;
 mod tables;
+mod tested;
 mod timing;
 
 use report::Report;
@@ -18,6 +19,7 @@ pub fn run() {
     tables::run(&mut report);
     growth::run(&mut report);
     ladder::run(&mut report);
+    tested::run(&mut report);
     expansion::run(&mut report);
     refusals::run(&mut report);
     functions::run(&mut report);

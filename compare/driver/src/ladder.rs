@@ -1,4 +1,5 @@
-//! The library crate `ladder`: requests that are given a state and hand the next one back.
+//! The library crate `ladder`: requests that are given a state and hand the next one back. The
+//! reader that tests what they wrote.
 
 mod alone;
 mod comparison;
@@ -11,6 +12,7 @@ mod outcome;
 mod rungs;
 mod running;
 mod state;
+pub mod tested;
 #[cfg(test)]
 mod tests;
 
@@ -47,8 +49,8 @@ mod library {
     }
 }
 
-/// How many calls there are: those of D and V.
-pub const CALLS: usize = 2;
+/// How many calls there are: those of D and V, and the tested reader.
+pub const CALLS: usize = 3;
 /// For so many requests in lists from an empty ladder there is one state handed in.
 const REQUESTS_FOR_A_STATE: usize = 5;
 
@@ -108,8 +110,8 @@ pub fn compare_drawn_from_elsewhere(comparison: &mut Comparison, count: usize, s
     comparison.run(lists::cut(lists::drawn_from_elsewhere(seed), count), ask);
 }
 
-/// Compares the library's ladder with the scope paper's over `count` requests in lists from an empty
-/// ladder, and over lists from states handed in.
+/// Compares the library's ladder with the scope paper's over `count` requests in lists from an
+/// empty ladder, and over lists from states handed in; then its tested reader.
 pub fn compare(tally: &mut Tally, count: usize, seed: u64) {
     let mut from_empty = Comparison::from_empty();
     from_empty.run(lists::from_empty(count, seed), ask);
@@ -118,4 +120,5 @@ pub fn compare(tally: &mut Tally, count: usize, seed: u64) {
     let states = count.div_ceil(REQUESTS_FOR_A_STATE);
     from_elsewhere.run(lists::from_elsewhere(states, seed), ask);
     from_elsewhere.finish(tally);
+    tested::compare(tally, count, seed);
 }

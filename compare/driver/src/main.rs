@@ -33,7 +33,8 @@ const LAYERS: [(&str, &[Function]); 3] = [
 const USAGE: &str = "\
 arguments: compare COUNT SEED | soak REQUESTS [SEED] | edges | store FOLDER | bench
   COUNT     inputs for each function and for each call of the expansion, requests for each table call
-            and for the ladder from empty; a fifth as many states handed in; a whole number above 0
+            and for the ladder from empty; a fifth as many states handed in; readings of the tested
+            reader from each; a whole number above 0
   REQUESTS  for the calls of the C interface in all, a whole number above 0
   SEED      of the random inputs and requests, a whole number below 2^64
   FOLDER    where the files of stored answers go";

@@ -5,20 +5,22 @@ use std::time::Instant;
 use crate::comparing::{Line, Tally};
 use crate::expansion::{D_EXPANSION, MACLAURIN};
 use crate::inputs::mixed;
-use crate::ladder::{self, Comparison};
+use crate::ladder::{self, Comparison, tested};
 use crate::tables::CALLS;
 
 /// Requests of a round, and those after which a line is printed.
 const ROUND: usize = 1_000_000;
 const PRINTED: usize = 10_000_000;
-/// Table calls, ladder calls, expansion and Maclaurin series.
-const ALL_CALLS: usize = 6;
+/// Table calls, ladder calls, tested reader, expansion and Maclaurin series.
+const ALL_CALLS: usize = 7;
 
 /// What was compared so far.
 struct Soak {
     tables: [Line<'static>; 2],
     from_empty: Comparison,
     from_elsewhere: Comparison,
+    /// From an empty ladder, and from states handed in.
+    tested: [tested::Comparison; 2],
     expansion: Line<'static>,
     maclaurin: Line<'static>,
 }
@@ -29,6 +31,8 @@ struct Shares {
     tables: usize,
     from_empty: usize,
     from_elsewhere: usize,
+    /// For each of the two lines of the tested reader.
+    tested: usize,
     expansion: usize,
     maclaurin: usize,
 }
@@ -36,15 +40,18 @@ struct Shares {
 impl Shares {
     fn of(requests: usize) -> Self {
         let tables = requests / 5;
-        let from_empty = requests * 3 / 10;
-        let from_elsewhere = requests / 5;
+        let from_empty = requests / 4;
+        let from_elsewhere = requests * 3 / 20;
+        let tested = requests / 20;
         let expansion = requests / 20;
+        let others = 2 * tables + from_empty + from_elsewhere + 2 * tested + expansion;
         Shares {
             tables,
             from_empty,
             from_elsewhere,
+            tested,
             expansion,
-            maclaurin: requests - 2 * tables - from_empty - from_elsewhere - expansion,
+            maclaurin: requests - others,
         }
     }
 }
@@ -52,7 +59,7 @@ impl Shares {
 /// Compares until there were so many requests in all. Gives whether there was no difference.
 pub fn run(requests: usize, seed: u64) -> bool {
     let start = Instant::now();
-    let mut soak = Soak::new();
+    let mut soak = Soak::new(seed);
     let mut done = 0;
     for round in 0.. {
         let count = ROUND.min(requests - done);
@@ -74,11 +81,15 @@ fn round_seed(seed: u64, round: u64) -> u64 {
 }
 
 impl Soak {
-    fn new() -> Self {
+    fn new(seed: u64) -> Self {
         Soak {
             tables: CALLS.map(|call| Line::new(call.name)),
             from_empty: Comparison::from_empty(),
             from_elsewhere: Comparison::from_elsewhere(),
+            tested: [
+                tested::Comparison::from_empty(seed),
+                tested::Comparison::from_elsewhere(seed),
+            ],
             expansion: Line::new(D_EXPANSION.name),
             maclaurin: Line::new(MACLAURIN.name),
         }
@@ -91,18 +102,24 @@ impl Soak {
         }
         ladder::compare_drawn_from_empty(&mut self.from_empty, shares.from_empty, seed);
         ladder::compare_drawn_from_elsewhere(&mut self.from_elsewhere, shares.from_elsewhere, seed);
+        let [from_empty, from_elsewhere] = &mut self.tested;
+        tested::compare_drawn_from_empty(from_empty, shares.tested, seed);
+        tested::compare_drawn_from_elsewhere(from_elsewhere, shares.tested, seed);
         D_EXPANSION.compare_drawn(&mut self.expansion, shares.expansion, seed);
         MACLAURIN.compare_drawn(&mut self.maclaurin, shares.maclaurin, seed);
     }
 
-    fn lines(&self) -> [&Line<'static>; 6] {
+    fn lines(&self) -> [&Line<'static>; 8] {
         let [d, v] = &self.tables;
         let ladders = [&self.from_empty.line, &self.from_elsewhere.line];
+        let tested = self.tested.each_ref().map(|comparison| &comparison.line);
         [
             d,
             v,
             ladders[0],
             ladders[1],
+            tested[0],
+            tested[1],
             &self.expansion,
             &self.maclaurin,
         ]
@@ -120,6 +137,9 @@ impl Soak {
         }
         self.from_empty.finish(&mut tally);
         self.from_elsewhere.finish(&mut tally);
+        for comparison in &self.tested {
+            comparison.finish(&mut tally);
+        }
         tally.add(&self.expansion);
         tally.add(&self.maclaurin);
         tally.finish("soak")
@@ -134,7 +154,7 @@ mod tests {
     fn the_shares_make_up_the_round() {
         for requests in (1..200).chain([ROUND - 1, ROUND]) {
             let shares = Shares::of(requests);
-            let ladder = shares.from_empty + shares.from_elsewhere;
+            let ladder = shares.from_empty + shares.from_elsewhere + 2 * shares.tested;
             let off_path = shares.expansion + shares.maclaurin;
             assert_eq!(2 * shares.tables + ladder + off_path, requests);
         }
@@ -142,7 +162,7 @@ mod tests {
 
     #[test]
     fn a_round_compares_as_many_requests_as_asked() {
-        let mut soak = Soak::new();
+        let mut soak = Soak::new(1);
         for (round, requests) in [1, 19, 500].into_iter().enumerate() {
             soak.round(requests, round_seed(1, round as u64));
         }
@@ -154,13 +174,14 @@ mod tests {
 
     #[test]
     fn a_difference_counts_in_the_end() {
-        for i in 0..2 {
-            let mut soak = Soak::new();
-            let line = [&mut soak.maclaurin, &mut soak.from_elsewhere.line];
+        for i in 0..3 {
+            let mut soak = Soak::new(1);
+            let tested = &mut soak.tested[1].line;
+            let line = [&mut soak.maclaurin, &mut soak.from_elsewhere.line, tested];
             let differing = Some(("input".into(), "sides".into()));
             line.into_iter()
                 .nth(i)
-                .expect("there are two")
+                .expect("there are three")
                 .count(differing);
             assert_eq!(soak.differences(), 1);
             assert!(!soak.finish());

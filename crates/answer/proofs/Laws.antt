@@ -4,7 +4,7 @@ use Rattle.std.proofs.Math.Option.{some, none}
 use Rattle.answer.specs.declared.Pair.{Pair}
 use Rattle.answer.specs.declared.Refusal.{Refusal}
 use Rattle.answer.specs.declared.Refusal.TheVariants.{NotANumber, OrderTooLarge, TableTooShort, OrderOutsideExpansion}
-use Rattle.answer.specs.declared.Refusal.TheVariants.{Infinite}
+use Rattle.answer.specs.declared.Refusal.TheVariants.{Infinite, NotForward, RungDiffers}
 use Rattle.answer.specs.Answer.{number, refusal_of, pair_of, answer_by}
 
 pub refused : (number : ℕ) (pair : Float × Float) → (number ≡ 0 → ⊥) → answer_by number pair ≡ none
@@ -23,6 +23,8 @@ numbered OrderTooLarge h = omega (arith, h)
 numbered TableTooShort h = omega (arith, h)
 numbered OrderOutsideExpansion h = omega (arith, h)
 numbered Infinite h = omega (arith, h)
+numbered NotForward h = omega (arith, h)
+numbered RungDiffers h = omega (arith, h)
 
 -- a test with the refusal's number n: a refusal is passed up, and where there is none n is 0
 module _ {A : Type 0} (test : Result A Refusal) (n : ℕ) (e : refusal_of test ≡ n) where

@@ -5,7 +5,7 @@ use Rattle.std.proofs.Math.Option.{Option, some, none}
 use Rattle.answer.specs.declared.Pair.{Pair}
 use Rattle.answer.specs.declared.Refusal.{Refusal}
 use Rattle.answer.specs.declared.Refusal.TheVariants.{NotANumber, OrderTooLarge, TableTooShort, OrderOutsideExpansion}
-use Rattle.answer.specs.declared.Refusal.TheVariants.{Infinite}
+use Rattle.answer.specs.declared.Refusal.TheVariants.{Infinite, NotForward, RungDiffers}
 
 unfoldable pub number : Refusal → ℕ
 number NotANumber = 1
@@ -13,6 +13,8 @@ number OrderTooLarge = 2
 number TableTooShort = 3
 number OrderOutsideExpansion = 4
 number Infinite = 5
+number NotForward = 6
+number RungDiffers = 7
 
 -- of a test or a request, whatever it gives where it is not refused
 unfoldable pub refusal_of : {A : Type 0} → Result A Refusal → ℕ

@@ -18,6 +18,10 @@ pub enum Refusal {
     OrderOutsideExpansion = 4,
     // The expansion and the Maclaurin series: an input is infinite.
     Infinite = 5,
+    // The tested reader: the state counts as empty, or its branch does not run forward.
+    NotForward = 6,
+    // The tested reader: a rung differs.
+    RungDiffers = 7,
 }
 
 // A value and a derivative.

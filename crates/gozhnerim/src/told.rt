@@ -13,7 +13,7 @@ use gozhnerim_told::{GozhnerimOrder, case_of, order_of};
 pub extern "C" fn gozhnerim_version() -> u32
     ensures { result ≡ version }
 {
-    201
+    300
 }
 
 #[unsafe(no_mangle)]

@@ -86,6 +86,31 @@ module _ (table : Request → List Float) (long : Long table) (s₀ : Ladder) (n
       (all_rungs cs f.1 (after_call o c) t.known (later_request a (effect_at o c) c.inputs) asked (Anew so_far (Handed vs ds c) (effect_at o c)) made.values made.derivatives
       (t.rungs so_far vs ds r))
 
+  -- ---- what is held after the list
+
+  pub record HeldLast (o : Option Finished) (a : Option Request) (cs : List Call) : Type 0 where
+    pub finished : Option Finished
+    pub known : KnownAt finished
+    pub state : last_state (state_at s₀ o) (turns (state_at s₀ o) cs) ≡ state_at s₀ finished
+    pub machine : after (machine_at o) (map fed cs) ≡ machine_at finished
+    pub request : last_accepted a (verdicts (machine_at o) (map fed cs)) cs ≡ request_at finished
+
+  pub held_last : (cs : List Call) → Numbers cs → (o : Option Finished) → KnownAt o → (a : Option Request) → request_at o ≡ a → HeldLast o a cs
+  unfolding turns last_state last_accepted
+  held_last [] f o k a e =
+      record { finished = o; known = k; state = refl; machine = after_nil (machine_at o); request = rw (verdicts_nil (machine_at o)) (sym e) }
+  held_last (c ∷ cs) f o k a e =
+      let r = call o k c f.0 in
+      let asked = later_request_law o (effect_at o c) c.inputs ∙ ap (λ (z : Option Request). later_request z (effect_at o c) c.inputs) e in
+      let rest = held_last cs f.1 (after_call o c) r.known (later_request a (effect_at o c) c.inputs) asked in
+      record {
+        finished = rest.finished;
+        known = rest.known;
+        state = rw r.state rest.state;
+        machine = rw (after_cons (machine_at o) (fed c) (map fed cs), r.machine) rest.machine;
+        request = rw (verdicts_cons (machine_at o) (fed c) (map fed cs), r.machine) rest.request;
+      }
+
 -- ---- DEMAND 3
 
 pub demand3 : Demand3

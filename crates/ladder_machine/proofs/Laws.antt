@@ -1,7 +1,7 @@
 -- What the crates above may know of the machine beside the contracts.
-use Rattle.std.proofs.Common.{◌≡◌, refl, sym, ap, ◌∙◌, subst, Bool, true, false, cond, true≢false, ◌⊎◌}
+use Rattle.std.proofs.Common.{◌≡◌, refl, sym, ap, ◌∙◌, subst, Bool, true, false, ◌||◌, cond, true≢false, ◌⊎◌}
 use Rattle.std.proofs.Common.{inl, inr, ℕ, zero, suc, ◌+◌, ◌≤◌, ◌<◌, arith, eq-eqb, ne_eqb, eqb-true, le-ltb}
-use Rattle.std.proofs.Common.{ltb-true, ltb-false, leb-true, T, eqb, Float}
+use Rattle.std.proofs.Common.{ltb, ltb-true, ltb-false, leb-true, T, eqb, Float}
 use Rattle.std.specs.Float.{binary64}
 use Rattle.std.specs.Float.Ieee.{fits, is_nan, le, of_bits}
 use Rattle.std.specs.Bool.{beq}
@@ -26,6 +26,8 @@ use Rattle.ladder_machine.specs.Held.Open.{counts_empty_is, machine_of_is}
 pub use Rattle.ladder_machine.specs.Machine.Open.{written_refuses, written_repeats, written_climbs, written_starts_over}
 pub use Rattle.ladder_machine.specs.Machine.Open.{holding_is, next_is, held_then_stays, held_then_goes_on}
 pub use Rattle.ladder_machine.specs.Machine.Open.{held_then_starts_at, verdicts_nil, verdicts_cons, after_nil, after_cons}
+-- ... and which branch is held
+pub use Rattle.ladder_machine.specs.Held.Open.{held_forward_is}
 
 -- ---- what is held
 
@@ -43,12 +45,43 @@ module _ (h : Held) where
       some zero e = absurd (eqb-false 0 0 e refl)
       some (suc n) e = omega arith
 
+  -- one that does
+  abbrev pub Reasons : Type 0
+  Reasons = (h.n ≡ 0) ⊎ (1000 < h.n) ⊎ (is_nan h.sequence.x ≡ true) ⊎ (is_nan h.sequence.f ≡ true) ⊎ (le f1 (absolute h.sequence.f) ≡ true)
+
+  pub reason : counts_empty h ≡ true → Reasons
+  reason e = go (eqb h.n 0) refl (ltb 1000 h.n) refl (is_nan h.sequence.x) refl (is_nan h.sequence.f) refl (le f1 (absolute h.sequence.f)) refl (sym (counts_empty_is h) ∙ e)
+    where
+      go : (a : Bool) → eqb h.n 0 ≡ a → (b : Bool) → ltb 1000 h.n ≡ b → (c : Bool) → is_nan h.sequence.x ≡ c → (d : Bool) → is_nan h.sequence.f ≡ d → (e : Bool)
+          → le f1 (absolute h.sequence.f) ≡ e → (a || b || c || d || e) ≡ true → Reasons
+      go true i b j c k d l e m z = inl (eqb-true h.n 0 i)
+      go false i true j c k d l e m z = inr (inl (ltb-true 1000 h.n j))
+      go false i false j true k d l e m z = inr (inr (inl k))
+      go false i false j false k true l e m z = inr (inr (inr (inl l)))
+      go false i false j false k false l true m z = inr (inr (inr (inr m)))
+      go false i false j false k false l false m z = absurd (true≢false (sym z))
+
+  pub by_reason : Reasons → counts_empty h ≡ true
+  by_reason r = go (counts_empty h) refl r
+    where
+      go : (b : Bool) → counts_empty h ≡ b → Reasons → counts_empty h ≡ true
+      go true e r = e
+      go false e (inl i) = absurd (omega (arith, (not_empty e).0, i))
+      go false e (inr (inl i)) = absurd (omega (arith, (not_empty e).1, i))
+      go false e (inr (inr (inl i))) = absurd (true≢false (sym i ∙ (not_empty e).2))
+      go false e (inr (inr (inr (inl i)))) = absurd (true≢false (sym i ∙ (not_empty e).3))
+      go false e (inr (inr (inr (inr i)))) = absurd (true≢false (sym i ∙ (not_empty e).4))
+
   pub no_rung_held : h.n ≡ 0 → counts_empty h ≡ true
   no_rung_held e = rw (counts_empty_is h, eq-eqb h.n 0 e)
 
   -- the machine begun with a state
   pub machine_empty : counts_empty h ≡ true → machine_of h ≡ empty
   machine_empty e = rw (machine_of_is h, e)
+
+  pub machine_held : counts_empty h ≡ false
+      → machine_of h ≡ holds h.sequence.function h.sequence.below (bits_of h.sequence.x) (bits_of h.sequence.f) h.n
+  machine_held e = rw (machine_of_is h, e)
 
   -- a state whose machine is empty counts as empty
   pub empty_machine : machine_of h ≡ empty → counts_empty h ≡ true
@@ -69,6 +102,22 @@ module _ (h : Held) where
   pub not_counted_empty : 1 ≤ h.n → h.n ≤ 1000 → is_nan h.sequence.x ≡ false → is_nan h.sequence.f ≡ false → le f1 (absolute h.sequence.f) ≡ false → counts_empty h ≡ false
   not_counted_empty a b c d e = rw (counts_empty_is h, ne_eqb h.n 0 (λ z. omega arith), le-ltb 1000 h.n b, c, d, e)
 
+-- ---- what is too short, and what is not
+
+module _ (n values derivatives : ℕ) where
+  pub room : too_short n values derivatives ≡ false → (n < values) × (n ≤ derivatives)
+  room e =
+      let r = or_parts _ _ (sym (too_short_is n values derivatives) ∙ e) in
+      let a = ltb-false values (n + 1) r.0 in
+      (omega arith, ltb-false derivatives n r.1)
+
+  pub no_room : too_short n values derivatives ≡ true → (values < n + 1) ⊎ (derivatives < n)
+  no_room e = go (ltb values (n + 1)) refl
+    where
+      go : (b : Bool) → ltb values (n + 1) ≡ b → (values < n + 1) ⊎ (derivatives < n)
+      go true s = inl (ltb-true values (n + 1) s)
+      go false s = inr (ltb-true derivatives n (rw s at (sym (too_short_is n values derivatives) ∙ e)))
+
 -- ---- what is not refused
 
 module _ (q : Request) (values derivatives : ℕ) where
@@ -77,9 +126,8 @@ module _ (q : Request) (values derivatives : ℕ) where
   accepted e =
       let n = top_rung q.v in
       let p = accepted_by q.v q.x (too_short n values derivatives) (sym (refusal_is q values derivatives) ∙ e) in
-      let r = or_parts _ _ (sym (too_short_is n values derivatives) ∙ p.3) in
-      let room = ltb-false values (n + 1) r.0 in
-      (p.0, p.1, p.2, omega arith, ltb-false derivatives n r.1)
+      let r = room n values derivatives p.3 in
+      (p.0, p.1, p.2, r.0, r.1)
 
 -- ---- the same function, side, argument and fraction
 

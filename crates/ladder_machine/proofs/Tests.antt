@@ -18,7 +18,7 @@ use Rattle.table_refusals.specs.Refusals.{refusal_by}
 use Rattle.ladder_machine.specs.declared.Request.{Request}
 use Rattle.ladder_machine.specs.Machine.{too_short, refusal, bits_of, same_function}
 use Rattle.ladder_machine.specs.Machine.Open.{too_short_is, refusal_is, bits_of_is, same_D_D, same_D_V, same_V_D, same_V_V, same_rungs_is, may_climb_is, case_by_empty, case_by_holds, case_of_is, verdict_on_request, verdict_is}
-use Rattle.ladder_machine.specs.Held.Open.{counts_empty_is, machine_of_is}
+use Rattle.ladder_machine.specs.Held.Open.{counts_empty_is, held_forward_is, machine_of_is}
 use Rattle.ladder_machine.proofs.Laws.{not_empty}
 
 -- ---- what is too short
@@ -48,7 +48,7 @@ pub bits_back : (x : Float) → T (fits binary64 x) → bits (bits_of x) ≡ x
 bits_back x p = rw (bits_of_is x) (of_bits-to_bits binary64 x p)
 
 -- what the tests of the code are, for `grind`
-pub ruleset tests = (nat_tests, too_short_is, counts_empty_is, same_rungs_is, same_flag, same_bits, may_climb_is, bits_back, machine_of_is, case_by_empty, case_by_holds, not_empty)
+pub ruleset tests = (nat_tests, too_short_is, counts_empty_is, held_forward_is, same_rungs_is, same_flag, same_bits, may_climb_is, bits_back, machine_of_is, case_by_empty, case_by_holds, not_empty)
 
 -- what the judgement is, for `judge`
 pub ruleset judging = (nat_tests, refusal_is, case_of_is, verdict_is, verdict_on_request, numbered, no_number, number_of, err_from_is_err_and)

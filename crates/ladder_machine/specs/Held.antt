@@ -1,8 +1,9 @@
 -- What a ladder holds beside its two values: when it counts as empty, and the machine begun with it (01, "The ladder").
 use Rattle.std.specs.Prelude.{Bool, ◌||◌, cond, eqb, ltb, Result, Ok, Err}
 use Rattle.std.specs.Float.Ieee.{is_nan, le}
-use Rattle.floats.specs.Operations.{f1}
+use Rattle.floats.specs.Operations.{◌⊕◌, whole, f1}
 use Rattle.signs.specs.Signs.{absolute}
+use Rattle.branches.specs.Branches.{runs_forward}
 use Rattle.ladder_machine.specs.declared.Held.{Held}
 use Rattle.answer.specs.Answer.{number}
 use Rattle.answer.specs.declared.Refusal.{Refusal}
@@ -17,6 +18,10 @@ pub counts_empty : Held → Bool
 counts_empty h =
     let r = h.sequence in
     eqb h.n 0 || ltb 1000 h.n || is_nan r.x || is_nan r.f || le f1 (absolute r.f)
+
+-- the held branch runs forward: the held u is n + f, rounded
+pub held_forward : Held → Bool
+held_forward h = let r = h.sequence in runs_forward r.function r.below r.x (whole h.n ⊕ r.f)
 
 -- the machine begun with a state's fields, its two values left out
 pub machine_of : Held → Machine

@@ -5,7 +5,7 @@
 ghost use Rattle.std.specs.Prelude.{◌≡◌, false, Ok};
 ghost use Rattle.std.specs.Float.Ieee.{is_nan};
 ghost use Rattle.ladder_machine.specs.Machine.{bits_of, same_rungs, may_climb, case_by};
-ghost use Rattle.ladder_machine.specs.Held.{counts_empty, machine_of, verdict_of};
+ghost use Rattle.ladder_machine.specs.Held.{counts_empty, held_forward, machine_of, verdict_of};
 
 use crate::{Case, Held};
 use order::{Rung, Sequence};
@@ -13,11 +13,18 @@ use signs::{abs, alike};
 
 impl Held {
     // Whether a state with these fields counts as empty.
-    fn counts_empty(self) -> bool
+    pub fn counts_empty(self) -> bool
         ensures { result ≡ counts_empty self }
     {
         let Sequence { x, f, .. } = self.sequence;
         self.n == 0 || self.n > 1000 || x.is_nan() || f.is_nan() || 1.0 <= abs(f)
+    }
+
+    // Whether the held branch runs forward.
+    pub fn runs_forward(self) -> bool
+        ensures { result ≡ held_forward self }
+    {
+        branches::runs_forward(self.sequence, f64::from(self.n) + self.sequence.f)
     }
 
     // Whether rungs up to n may go on from those held.
@@ -25,9 +32,7 @@ impl Held {
         ensures { result ≡ may_climb self.sequence.function self.sequence.below
             (bits_of self.sequence.x) (bits_of self.sequence.f) self.n n }
     {
-        self.n < n
-            && 2 <= self.n
-            && branches::runs_forward(self.sequence, f64::from(self.n) + self.sequence.f)
+        self.n < n && 2 <= self.n && self.runs_forward()
     }
 }
 

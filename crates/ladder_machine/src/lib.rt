@@ -40,7 +40,7 @@ pub enum Case {
 
 // Whether a value table or a derivative table of these lengths is too short for rungs 0 to n.
 #[tactic(auto, using(crate::proofs::Tests::tests))]
-fn too_short(n: Size, values: usize, derivatives: usize) -> bool
+pub fn too_short(n: Size, values: usize, derivatives: usize) -> bool
     ensures { result ≡ too_short n values derivatives }
 {
     let top = n as usize;

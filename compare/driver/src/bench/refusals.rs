@@ -2,14 +2,20 @@
 
 use super::ladder::tables;
 use super::report::{Report, SIDES, Times};
+use super::tested::filled;
 use super::timing::{Time, times};
 use crate::expansion::{D_EXPANSION, MACLAURIN};
+use crate::ladder::tested::read;
 use crate::ladder::{Point, State, ask};
-use crate::tables::{Call, Kind, call, needed};
+use crate::tables::{Call, Kind, Lent, MARGIN, call, needed};
 
 /// Requests that are refused: the number, order and argument. That with number 3 has a table too
 /// short by a slot.
 const ROWS: [(u32, f64, f64); 3] = [(1, 100.25, f64::NAN), (2, 1000.0, 2.0), (3, 100.25, 2.0)];
+
+/// Readings of a ladder at order 100.25 that are refused: the number, whether the branch is
+/// forward, and whether the value table is too short by a slot. Its last derivative is wrong.
+const OF_READINGS: [(u32, bool, bool); 3] = [(6, false, false), (3, true, true), (7, true, false)];
 
 const OF_EXPANSION: [(u32, [f64; 2]); 3] = [
     (1, [f64::NAN, 3.0]),
@@ -36,6 +42,10 @@ pub fn run(report: &mut Report) {
             let time = ladder_time(Point { kind, v, x });
             report.row(&format!("ladder {kind:?}, {refusal}"), alone(time));
         }
+    }
+    for (refusal, is_forward, is_short) in OF_READINGS {
+        let time = reading_time(is_forward, is_short);
+        report.row(&format!("tested_column, {refusal}"), alone(time));
     }
     for (refusal, input) in OF_EXPANSION {
         let time = time(input, D_EXPANSION.sides.library);
@@ -77,11 +87,37 @@ fn ladder_time(point: Point) -> Time {
     time(point, |point| ask(State::EMPTY, &point, lent.each_mut()))
 }
 
+/// Of the value column.
+fn reading_time(is_forward: bool, is_short: bool) -> Time {
+    let (state, mut lent) = reading(is_forward, is_short);
+    time(state, |state| read(state, lent.each_mut(), 1))
+}
+
+/// A state of D, forward or not, with its tables.
+fn reading(is_forward: bool, is_short: bool) -> (State, [Lent; 2]) {
+    let v = if is_forward { 100.25 } else { -100.25 };
+    let kind = Kind::D;
+    let (state, mut lent) = filled(&Point { kind, v, x: 2.0 });
+    let last = MARGIN + lent[1].length - 1;
+    lent[1].slots[last] = 0.0;
+    lent[0].length -= usize::from(is_short);
+    (state, lent)
+}
+
 #[cfg(test)]
 mod tests {
-    use super::{OF_EXPANSION, OF_MACLAURIN, ROWS};
+    use super::{OF_EXPANSION, OF_MACLAURIN, OF_READINGS, ROWS, reading};
     use crate::expansion::{D_EXPANSION, MACLAURIN};
+    use crate::ladder::tested::read;
     use crate::tables::{Kind, call, needed};
+
+    #[test]
+    fn the_readings_are_refused_with_their_numbers() {
+        for (refusal, is_forward, is_short) in OF_READINGS {
+            let (state, mut lent) = reading(is_forward, is_short);
+            assert_eq!(read(state, lent.each_mut(), 1).refusal, refusal);
+        }
+    }
 
     #[test]
     fn the_requests_are_refused_with_their_numbers() {

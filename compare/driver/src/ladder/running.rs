@@ -56,7 +56,7 @@ impl Run {
         request: &Request,
         ladder: impl Fn(State, &Point, [&mut Lent; 2]) -> Reply,
     ) -> (Case, Option<String>) {
-        if !self.lend(request) {
+        if !lend(&mut self.tables, request) {
             self.rungs_of = None;
         }
         let found = self.tables.clone();
@@ -69,33 +69,6 @@ impl Run {
             self.rungs_of = Some(request.point);
         }
         (case, expected.difference(&reply, &found, &self.tables))
-    }
-
-    /// Lends the tables. Gives whether they are as the request before left them, none cut shorter.
-    fn lend(&mut self, request: &Request) -> bool {
-        let &Request {
-            lengths,
-            junk,
-            lending,
-            ..
-        } = request;
-        let before = self.tables.each_ref().map(|table| table.length);
-        match lending {
-            Lending::Kept => {}
-            Lending::Exchanged => self.tables.swap(0, 1),
-            Lending::Overwritten => {
-                for table in &mut self.tables {
-                    overwrite(table, junk);
-                }
-            }
-            Lending::Other => self.tables = Default::default(),
-        }
-        let needed = request.point.needed();
-        for i in [0, 1] {
-            self.tables[i].lend(lengths[i], needed[i], Junk(junk.0 ^ ((i as u64) << 32)));
-            self.tables[i].is_null = request.nulls[i];
-        }
-        lending == Lending::Kept && lengths[0] >= before[0] && lengths[1] >= before[1]
     }
 
     /// The first rung in the tables that is not the source's.
@@ -112,6 +85,34 @@ impl Run {
         let difference = number_difference(values.chain(derivatives))?;
         Some(format!("after the list {difference}"))
     }
+}
+
+/// Lends value table and derivative table. Gives whether they are as the request before left them,
+/// none cut shorter.
+pub fn lend(tables: &mut [Lent; 2], request: &Request) -> bool {
+    let &Request {
+        lengths,
+        junk,
+        lending,
+        ..
+    } = request;
+    let before = tables.each_ref().map(|table| table.length);
+    match lending {
+        Lending::Kept => {}
+        Lending::Exchanged => tables.swap(0, 1),
+        Lending::Overwritten => {
+            for table in &mut *tables {
+                overwrite(table, junk);
+            }
+        }
+        Lending::Other => *tables = Default::default(),
+    }
+    let needed = request.point.needed();
+    for i in [0, 1] {
+        tables[i].lend(lengths[i], needed[i], Junk(junk.0 ^ ((i as u64) << 32)));
+        tables[i].is_null = request.nulls[i];
+    }
+    lending == Lending::Kept && lengths[0] >= before[0] && lengths[1] >= before[1]
 }
 
 /// Puts junk into every second slot, those around the table included.

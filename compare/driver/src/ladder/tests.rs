@@ -2,7 +2,7 @@
 
 mod machine;
 mod malformed;
-mod right_ladder;
+pub mod right_ladder;
 mod rungs;
 mod wrong_ladders;
 

@@ -47,6 +47,8 @@ pub enum Asked {
     OnLadder(Request),
     /// That a ladder is forgotten.
     Release,
+    /// That the rungs of a ladder are tested.
+    Check,
     /// A call that uses no ladder.
     Call(Call),
 }
@@ -172,13 +174,14 @@ pub fn line(words: &[&str]) -> Result<Asked, String> {
         "expansion" => expansion(rest).map(Asked::Call),
         "maclaurin" => series(rest).map(Asked::Call),
         "release" if rest.is_empty() => Ok(Asked::Release),
-        "release" => Err(format!(
-            "release takes no {}; write the ladder's name in front, as in `NAME: release`",
+        "check" if rest.is_empty() => Ok(Asked::Check),
+        "release" | "check" => Err(format!(
+            "{first} takes no {}; write the ladder's name in front, as in `NAME: {first}`",
             quoted(rest[0])
         )),
         _ if function(first).is_some() => request(first, words).map(Asked::OnLadder),
         other => Err(format!(
-            "{} is none of D, V, expansion, maclaurin and release",
+            "{} is none of D, V, expansion, maclaurin, release and check",
             quoted(other)
         )),
     }

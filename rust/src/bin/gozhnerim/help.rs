@@ -50,22 +50,31 @@ serve: the lines of input, and the one line on standard output that each has:
   V -3 0.5                     written; the case is repeat, climb or start-over
   expansion -25 3            VALUE DERIVATIVE
   maclaurin 0.5 0.25 1 0 0   VALUE DERIVATIVE
+  check                      checked RUNGS: so many rungs are held, and each is
+                               as a table call has it; or not-held, there is
+                               no ladder to check
   release                    released, the ladder is forgotten; or not-held,
                                there was none
-D, V and release take a ladder's name in front, as `tower1: D 2.5 1.0` and
-`tower1: release`, and without it go to the one ladder that has no name. Up to
-1000 ladders are held. expansion and maclaurin use no ladder and take no name.
+D, V, check and release take a ladder's name in front, as `tower1: D 2.5 1.0`
+and `tower1: release`, and without it go to the one ladder that has no name. Up
+to 1000 ladders are held. expansion and maclaurin use no ladder and take no name.
+check works out rungs 0 and 1 again, and tests each later one by the two before
+it and each derivative by the values. Where a rung differs it is refusal 7. It
+is refusal 6 where rungs do not run forward: D at orders below 0 and x > 0; V at
+orders from 0 on and x >= 0, or -10 <= x < 0 and a top rung of an order up to
+x*x/2.
 In place of such a line there can be one of these on standard output:
   refusal NUMBER: ..         what happened and what to do; the ladder is as before
   error line NUMBER: ..      what is wrong with that line of the input
 Lines end in LF or CR LF. Blank lines and lines that begin with # are skipped,
 and so is a byte order mark before the first line.
 
-exit status: 0 all answered; 1 a request was refused, a line was bad, a rung is
-not mirrored, or input or output failed; 2 wrong usage
+exit status: 0 all answered; 1 a request was refused, a line was bad, a ladder to
+check is not held, a rung is not mirrored, or input or output failed; 2 wrong
+usage
 
-docs/SUPPORT.md in the repository: refusals, how to reproduce an answer, halves
-that differ, where digits are lost
+docs/SUPPORT.md in the repository: refusals, how to reproduce an answer, damaged
+tables, halves that differ, where digits are lost
 ";
 
 /// The versions of the command and of the library linked into it.

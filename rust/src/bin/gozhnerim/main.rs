@@ -20,8 +20,8 @@ use std::process::ExitCode;
 
 use arguments::Task;
 
-/// Exit status where a request was refused, a line was bad, a rung is not mirrored or something
-/// failed.
+/// Exit status where a request was refused, a line was bad, a ladder to check is not held, a rung is
+/// not mirrored or something failed.
 const NOT_ALL_ANSWERED: u8 = 1;
 /// Exit status for wrong usage.
 const WRONG_USAGE: u8 = 2;

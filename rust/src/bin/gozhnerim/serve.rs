@@ -3,6 +3,7 @@
 use std::collections::HashMap;
 use std::io::{self, BufReader, IsTerminal, Read, Write};
 
+use gozhnerim::Column::Values;
 use gozhnerim::{Ladder, Refusal};
 
 use crate::arguments::{self, Asked, Request};
@@ -19,6 +20,8 @@ const COLUMNS: [Column; 4] = [
 ];
 /// So many ladders are held at most.
 const MOST_LADDERS: usize = 1000;
+/// The line for a ladder that there is not.
+const NOT_HELD: &str = "not-held";
 
 /// Serves standard input. Gives whether every line was answered.
 pub fn standard(bits: bool) -> io::Result<bool> {
@@ -45,6 +48,8 @@ enum Answer {
     Refused(Refusal),
     /// Whether a ladder was held that is now forgotten.
     Released(bool),
+    /// How many rungs were tested and are right; nothing where no ladder is held.
+    Checked(Option<usize>),
 }
 
 struct Server<W: Write> {
@@ -91,7 +96,10 @@ impl<W: Write> Server<W> {
             Ok(Answer::Pair(pair, more)) => self.rows.pair(pair, more),
             Ok(Answer::Refused(refusal)) => self.not_answered(&refusal.to_string()),
             Ok(Answer::Released(true)) => self.rows.text("released"),
-            Ok(Answer::Released(false)) => self.rows.text("not-held"),
+            Ok(Answer::Released(false)) => self.rows.text(NOT_HELD),
+            Ok(Answer::Checked(Some(rungs))) => self.rows.text(&format!("checked {rungs}")),
+            // Nothing was tested: the exit status says so too.
+            Ok(Answer::Checked(None)) => self.not_answered(NOT_HELD),
             Err(message) => self.not_answered(&format!("error line {number}: {message}")),
         }
     }
@@ -102,6 +110,7 @@ impl<W: Write> Server<W> {
         match asked {
             Asked::OnLadder(request) => self.request(name, request),
             Asked::Release => Ok(Answer::Released(self.ladders.remove(name).is_some())),
+            Asked::Check => Ok(self.check(name)),
             Asked::Call(call) => Ok(calls::answer(call).map_or_else(Answer::Refused, |pair| {
                 Answer::Pair([pair.value, pair.derivative], Default::default())
             })),
@@ -119,6 +128,14 @@ impl<W: Write> Server<W> {
             let more = [reply.written.to_string(), reply.case.to_string()];
             Answer::Pair([reply.value, reply.derivative], more)
         }))
+    }
+
+    /// Tests the tables of the ladder of that name, both of them.
+    fn check(&self, name: &str) -> Answer {
+        let tested = self.ladders.get(name).map(|ladder| ladder.tested(Values));
+        tested.transpose().map_or_else(Answer::Refused, |values| {
+            Answer::Checked(values.map(<[f64]>::len))
+        })
     }
 
     /// The ladder of that name, a new one if there is none yet.

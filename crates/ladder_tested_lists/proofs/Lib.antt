@@ -1,0 +1,3 @@
+pub mod ByTests
+pub mod Slots
+pub mod Lists

@@ -1,6 +1,7 @@
 -- #102: the reader after every list, by what is held after it, and on any state.
-use Rattle.std.proofs.Common.{◌≡◌, refl, sym, ap, ◌∙◌, List, ◌↔◌, ℕ, ◌+◌, ◌≤◌, ◌<◌, true, false, true≢false, length, drop, get_or, get_or-take, get_or-drop, T, arith, Float}
+use Rattle.std.proofs.Common.{◌≡◌, refl, sym, ap, ◌∙◌, List, ◌↔◌, ℕ, ◌+◌, ◌≤◌, ◌<◌, true, false, true≢false, length, replicate, drop, map, ◌*◌, le_of_eq, Ok, Err, get_or, get_or-take, get_or-drop, T, arith, Float}
 use Rattle.std.proofs.Math.Option.{Option, some, none}
+use Rattle.std.specs.Borrow.{Bor}
 use Rattle.std.specs.Float.{nan, binary64}
 use Rattle.std.specs.Float.Ieee.{fits}
 use Rattle.order.specs.Order.{below, shifted, top_rung, num}
@@ -13,7 +14,7 @@ use Rattle.tables.specs.Tables.{sequence_of, value_of}
 use Rattle.tables.proofs.Calls.{value_of_is}
 use Rattle.ladder_machine.specs.declared.Held.{Held}
 use Rattle.ladder_machine.specs.declared.Request.{Request}
-use Rattle.ladder_machine.specs.Machine.{empty, holding, too_short}
+use Rattle.ladder_machine.specs.Machine.{empty, holding, after as machine_after, verdicts, too_short}
 use Rattle.ladder_machine.specs.Held.{counts_empty, held_forward}
 use Rattle.ladder_machine.proofs.Laws.{not_empty, by_reason, machine_empty, held_forward_is, holding_is, room}
 use Rattle.ladder_reader.specs.declared.Column.{Column}
@@ -23,12 +24,18 @@ use Rattle.ladder.specs.Ladder.{state_for}
 use Rattle.ladder.specs.Ladder.Open.{state_for_is}
 use Rattle.ladder_tested_reader.specs.Tested.{holds_rungs, tested, tested_part}
 use Rattle.ladder_tested_reader.proofs.Tests.{part_given, no_part}
-use Rattle.ladder_lists.specs.Demand3.{Call, Numbers, Long, tabled, tabled_value, tabled_derivative, Rungs}
+use Rattle.ladder_lists.specs.Demand3.{Call, fed, Numbers, Long, last_accepted, tabled, tabled_value, tabled_derivative, Rungs}
 use Rattle.ladder_lists.proofs.Held.{derivative_by, facts, table_value, table_derivative}
 use Rattle.ladder_lists.proofs.Turns.{Finished, machine_at, state_at, KnownAt, request_at, machine_at_law}
 use Rattle.ladder_lists.proofs.Rungs.{RungsIn, value_rungs, derivative_rungs}
-use Rattle.ladder_lists.proofs.Lists.{held_last}
-use Rattle.ladder_tested_lists.specs.TestedLists.{NotForward, top, TooShort, named, F64s, Reads, ReadsAfter, Carried, ReadsAny, TestedReader}
+use Rattle.ladder_lists.proofs.Lists.{HeldLast, held_last}
+use Rattle.ladder_states.specs.States.{empty_state}
+use Rattle.ladder_states.proofs.Laws.{nothing_held}
+use Rattle.std.proofs.Math.ListN.{length-replicate}
+use Rattle.floats.specs.Operations.{f0}
+use Rattle.answer.specs.Answer.{number, refusal_of}
+use Rattle.answer.specs.declared.Refusal.TheVariants.{NotForward as NotForwardRefusal, TableTooShort, RungDiffers}
+use Rattle.ladder_tested_lists.specs.TestedLists.{NotForward, top, TooShort, named, F64s, Reads, ReadsAfter, HoldsLast, Carried, ReadsAny, TestedReader}
 use Rattle.ladder_tested_lists.proofs.ByTests.{reads_machine, reads_held}
 use Rattle.ladder_tested_lists.proofs.Slots.{each_slot, as_carried, formula, OnRungs, as_rungs}
 
@@ -139,6 +146,26 @@ module _ (table : Request → List Float) (long : Long table) (s : Ladder) (noth
       let last = held_last table long s nothing cs numbers none tt none refl in
       rw (last.state, last.machine, last.request) (after last.finished last.known)
 
+-- ---- what the machine holds after a list
+
+-- a table that is long enough for every request
+some_table : Request → List Float
+some_table q = replicate (2 * num q.v) f0
+
+some_table_long : Long some_table
+unfolding some_table
+some_table_long q number small = le_of_eq (sym (length-replicate (2 * num q.v) f0))
+
+holds_last : (cs : List Call) → Numbers cs → (let feeds = map fed cs in HoldsLast (machine_after empty feeds) (last_accepted none (verdicts empty feeds) cs))
+holds_last cs numbers = rw (last.machine, last.request) (go last.finished last.known)
+  where
+    last : HeldLast some_table some_table_long empty_state nothing_held none none cs
+    last = held_last some_table some_table_long empty_state nothing_held cs numbers none tt none refl
+
+    go : (o : Option Finished) → KnownAt o → HoldsLast (machine_at o) (request_at o)
+    go none k = refl
+    go (some p) k = holding_is p.request p.n ∙ rw k.1
+
 -- ---- any state
 
 any_state : (h : Held) (values derivatives : List Float) → F64s values → F64s derivatives → (which : Column) → ReadsAny h values derivatives which
@@ -154,11 +181,18 @@ any_state h values derivatives a b which =
         let j = as_carried h.sequence h.n values derivatives least in
         ((λ t. j.0 (i.0 t)), (λ t. i.1 (j.1 t)))
 
+numbers : ((part : Bor (List Float)) → refusal_of (Ok part) ≡ 0) × (refusal_of {A = Unit} (Err NotForwardRefusal) ≡ 6) × (refusal_of {A = Unit} (Err TableTooShort) ≡ 3)
+    × (refusal_of {A = Unit} (Err RungDiffers) ≡ 7)
+unfolding refusal_of number
+numbers = ((λ part. refl), refl, refl, refl)
+
 pub tested_reader_law : TestedReader
 tested_reader_law = record {
   lists = λ table long s nothing cs numbers values derivatives a b which.
       after_list table long s (by_reason (held_in s) nothing) values derivatives a b which cs numbers;
+  holds_last = holds_last;
   any_state = any_state;
+  numbers_read = numbers;
   part_read = part_given;
   none_read = no_part;
 }

@@ -20,8 +20,11 @@ use Rattle.rungs.specs.Rungs.{start_rungs}
 use Rattle.slots.specs.Slots.{slot}
 use Rattle.ladder_machine.specs.declared.Held.{Held}
 use Rattle.ladder_machine.specs.declared.Request.{Request}
-use Rattle.ladder_machine.specs.Machine.{Machine, empty, holds, after, verdicts}
+use Rattle.ladder_machine.specs.Machine.{Machine, empty, holds, bits_of, after, verdicts}
+use Rattle.answer.specs.Answer.{refusal_of}
 use Rattle.answer.specs.declared.Refusal.{Refusal}
+use Rattle.answer.specs.declared.Refusal.TheVariants.{NotForward as NotForwardRefusal, TableTooShort, RungDiffers}
+use Rattle.order.specs.Order.{below, fraction_of, top_rung}
 use Rattle.ladder_reader.specs.declared.Column.{Column}
 use Rattle.ladder_reader.specs.declared.Column.TheVariants.{Values, Derivatives}
 use Rattle.ladder_states.specs.declared.Ladder.{Ladder}
@@ -89,6 +92,12 @@ ReadsAfter table s cs values derivatives which =
     (tested h values derivatives)
     (tested_part which h values derivatives)
 
+-- what the machine holds then is the last accepted request, all its rungs
+abbrev pub HoldsLast : Machine → Option Request → Type 0
+HoldsLast m none = m ≡ empty
+HoldsLast m (some q) =
+    m ≡ holds q.function (below q.v) (bits_of q.x) (bits_of (fraction_of q.v)) (top_rung q.v)
+
 -- ---- any state handed in, with any two tables: rungs 0 and 1 are worked out afresh, and each later slot is what the
 -- recurrence makes of the two before it
 
@@ -118,8 +127,14 @@ pub record TestedReader : Type 0 where
   pub lists : (table : Request → List Float) → Long table → (s : Ladder) → Empty (fields s)
       → (cs : List Call) → Numbers cs → (values derivatives : List Float) → F64s values → F64s derivatives
       → (which : Column) → ReadsAfter table s cs values derivatives which
+  pub holds_last : (cs : List Call) → Numbers cs
+      → (let feeds = map fed cs in HoldsLast (after empty feeds) (last_accepted none (verdicts empty feeds) cs))
   pub any_state : (h : Held) (values derivatives : List Float) → F64s values → F64s derivatives
       → (which : Column) → ReadsAny h values derivatives which
-  -- how the contract reads the result: the part itself, and none with a refusal
+  -- how the contract reads the result: the number of each refusal, the part itself, and none with a refusal
+  pub numbers_read : ((part : Bor (List Float)) → refusal_of (Ok part) ≡ 0)
+      × (refusal_of {A = Unit} (Err NotForwardRefusal) ≡ 6)
+      × (refusal_of {A = Unit} (Err TableTooShort) ≡ 3)
+      × (refusal_of {A = Unit} (Err RungDiffers) ≡ 7)
   pub part_read : (part : Bor (List Float)) → part_of (Ok part) ≡ some part.now
   pub none_read : (refusal : Refusal) → part_of (Err refusal) ≡ none

@@ -5,14 +5,14 @@ use Rattle.std.proofs.lemmas.Result.{err_from_is_err_and}
 use Rattle.answer.specs.declared.Refusal.{Refusal}
 use Rattle.answer.proofs.Laws.{numbered, refusal_numbers}
 use Rattle.ladder_tested_reader.proofs.Tests.{not_lent, part_given, no_part}
-use Rattle.gozhnerim_parts.specs.Parts.{count_of, slots_of}
+use Rattle.gozhnerim_parts.specs.Parts.{slots_in, slots_of}
 
-pub counted : (slots : ℕ) → count_of (Ok slots) ≡ slots
-unfolding count_of
+pub counted : (slots : ℕ) → slots_in (Ok slots) ≡ slots
+unfolding slots_in
 counted slots = refl
 
-pub none_counted : (refusal : Refusal) → count_of (Err refusal) ≡ 0
-unfolding count_of
+pub none_counted : (refusal : Refusal) → slots_in (Err refusal) ≡ 0
+unfolding slots_in
 none_counted refusal = refl
 
 pub part_slots : (part : List Float) → slots_of (some part) ≡ length part

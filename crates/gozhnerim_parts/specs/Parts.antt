@@ -20,9 +20,9 @@ slots_of (some part) = length part
 slots_of none = 0
 
 -- the slots of a result, none with a refusal
-unfoldable pub count_of : Result ℕ Refusal → ℕ
-count_of (Ok slots) = slots
-count_of (Err refusal) = 0
+unfoldable pub slots_in : Result ℕ Refusal → ℕ
+slots_in (Ok slots) = slots
+slots_in (Err refusal) = 0
 
 unfoldable pub tested_in_c : GozhnerimLadder → ℕ → List Float → List Float → GozhnerimPart
 tested_in_c held which values derivatives =

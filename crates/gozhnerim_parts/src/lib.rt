@@ -7,7 +7,7 @@ ghost use Rattle.std.specs.Prelude.{◌≡◌};
 ghost use Rattle.answer.specs.Answer.{refusal_of};
 ghost use Rattle.ladder_reader.specs.Numbers.{column_of};
 ghost use Rattle.ladder_tested_reader.specs.Tested.{tested};
-ghost use Rattle.gozhnerim_parts.specs.Parts.{count_of, slots_of, part_named, tested_in_c};
+ghost use Rattle.gozhnerim_parts.specs.Parts.{slots_in, slots_of, part_named, tested_in_c};
 ghost use Rattle.gozhnerim_parts.specs.TestedInC.{TestedReaderInC};
 
 use answer::Refusal;
@@ -30,7 +30,7 @@ pub struct GozhnerimPart {
 #[tactic(auto, using(crate::proofs::Laws::lent_laws), unfolding(crate::specs::Parts::part_named))]
 fn slots_lent(held: Held, values: &[f64], derivatives: &[f64], which: u32) -> Result<usize, Refusal>
     ensures number { refusal_of result ≡ tested held values.now derivatives.now }
-    ensures slots { count_of result ≡ slots_of (part_named (column_of which) held values.now derivatives.now) }
+    ensures slots { slots_in result ≡ slots_of (part_named (column_of which) held values.now derivatives.now) }
 {
     let Ok(column) = Column::try_from(which) else {
         test(held, values, derivatives)?;

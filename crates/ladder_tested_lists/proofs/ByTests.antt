@@ -12,7 +12,7 @@ use Rattle.ladder_machine.proofs.Laws.{reason, by_reason, machine_empty, machine
 use Rattle.ladder_machine.proofs.Tests.{bits_back}
 use Rattle.ladder_reader.specs.declared.Column.{Column}
 use Rattle.ladder_reader.specs.declared.Column.TheVariants.{Values, Derivatives}
-use Rattle.ladder_tested_reader.specs.Tested.{holds_rungs, tested, column_of, tested_part}
+use Rattle.ladder_tested_reader.specs.Tested.{holds_rungs, tested, column_held, tested_part}
 use Rattle.ladder_tested_reader.proofs.Tests.{number_is, lent, not_lent}
 use Rattle.ladder_tested_lists.specs.TestedLists.{NotForwardHeld, NotForward, top, TooShort, named, Reads}
 
@@ -157,8 +157,8 @@ module _ (h : Held) (A : Type 0) (n : ℕ) (first : ((counts_empty h || not (hel
       go true u = absurd ((found.lends.0 e).0 (first.0 u))
       go false u = u
 
-  columns : (which : Column) → counts_empty h ≡ false → column_of which h.n values derivatives ≡ named which n values derivatives
-  unfolding column_of
+  columns : (which : Column) → counts_empty h ≡ false → column_held which h.n values derivatives ≡ named which n values derivatives
+  unfolding column_held
   columns Values e = rw (same e)
   columns Derivatives e = rw (same e)
 

@@ -12,6 +12,10 @@ use Rattle.std.specs.Float.Ieee.{fits, is_nan, le, eq}
 use Rattle.floats.specs.Operations.{◌⊕◌, ◌⊗◌, bits, whole, f0, f1}
 use Rattle.signs.specs.Signs.{absolute}
 use Rattle.floats.specs.declared.Function.TheVariants.{«V»}
+use Rattle.answer.specs.Answer.{refusal_of}
+use Rattle.answer.specs.declared.Refusal.{Refusal}
+use Rattle.answer.specs.declared.Refusal.TheVariants.{NotForward as NotForwardRefusal, TableTooShort, RungDiffers}
+use Rattle.order.specs.Order.{below, fraction_of, top_rung}
 use Rattle.order.specs.declared.Sequence.{Sequence}
 use Rattle.recurrence.specs.Recurrence.{step}
 use Rattle.derivatives.specs.Derivatives.{derivative}
@@ -21,10 +25,6 @@ use Rattle.slots.specs.Slots.{slot}
 use Rattle.ladder_machine.specs.declared.Held.{Held}
 use Rattle.ladder_machine.specs.declared.Request.{Request}
 use Rattle.ladder_machine.specs.Machine.{Machine, empty, holds, bits_of, after, verdicts}
-use Rattle.answer.specs.Answer.{refusal_of}
-use Rattle.answer.specs.declared.Refusal.{Refusal}
-use Rattle.answer.specs.declared.Refusal.TheVariants.{NotForward as NotForwardRefusal, TableTooShort, RungDiffers}
-use Rattle.order.specs.Order.{below, fraction_of, top_rung}
 use Rattle.ladder_reader.specs.declared.Column.{Column}
 use Rattle.ladder_reader.specs.declared.Column.TheVariants.{Values, Derivatives}
 use Rattle.ladder_states.specs.declared.Ladder.{Ladder}

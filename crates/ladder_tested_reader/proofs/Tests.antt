@@ -12,7 +12,7 @@ use Rattle.ladder_machine.specs.declared.Held.{Held}
 use Rattle.ladder_machine.specs.Held.{counts_empty, held_forward}
 use Rattle.ladder_machine.proofs.Laws.{not_empty, room}
 use Rattle.ladder_reader.specs.declared.Column.{Column}
-use Rattle.ladder_tested_reader.specs.Tested.{value_over, all_alike, holds_rungs, tested, column_of, tested_part, part_of}
+use Rattle.ladder_tested_reader.specs.Tested.{value_over, all_alike, holds_rungs, tested, column_held, tested_part, part_of}
 use Rattle.ladder_tested_reader.specs.Tested.Open.{tested_is}
 
 -- a state that does not count as empty holds rung 1
@@ -56,7 +56,7 @@ number_is h values derivatives = tested_is h values derivatives
 
 -- what is lent by the number
 pub lent : (which : Column) (h : Held) (values derivatives : List Float) → tested h values derivatives ≡ 0
-    → tested_part which h values derivatives ≡ some (column_of which h.n values derivatives)
+    → tested_part which h values derivatives ≡ some (column_held which h.n values derivatives)
 unfolding tested_part
 lent which h values derivatives e = rw (eq-eqb (tested h values derivatives) 0 e)
 

@@ -50,14 +50,14 @@ tested h values derivatives =
 
 -- ---- the column named: n + 1 values or n derivatives
 
-unfoldable pub column_of : Column → ℕ → List Float → List Float → List Float
-column_of Values n values derivatives = take (n + 1) values
-column_of Derivatives n values derivatives = take n derivatives
+unfoldable pub column_held : Column → ℕ → List Float → List Float → List Float
+column_held Values n values derivatives = take (n + 1) values
+column_held Derivatives n values derivatives = take n derivatives
 
 -- what is lent back where there is no refusal
 unfoldable pub tested_part : Column → Held → List Float → List Float → Option (List Float)
 tested_part which h values derivatives =
-    cond (eqb (tested h values derivatives) 0) (some (column_of which h.n values derivatives)) none
+    cond (eqb (tested h values derivatives) 0) (some (column_held which h.n values derivatives)) none
 
 -- an answer in these words
 unfoldable pub part_of : Result (Bor (List Float)) Refusal → Option (List Float)

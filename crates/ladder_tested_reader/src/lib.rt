@@ -33,7 +33,7 @@ pub fn test(held: Held, values: &[f64], derivatives: &[f64]) -> Result<(), Refus
 }
 
 // The column named, n + 1 values or n derivatives, where both tables pass the test.
-#[tactic(auto, using(crate::proofs::Tests::column_laws), unfolding(crate::specs::Tested::column_of))]
+#[tactic(auto, using(crate::proofs::Tests::column_laws), unfolding(crate::specs::Tested::column_held))]
 pub fn tested_column<'a>(
     held: Held,
     values: &'a [f64],

@@ -277,6 +277,16 @@ static void odd_states(void)
     q.n = 5;
     q.written = 2;
     check_request(held, &q, &t);
+
+    /* n above 1000 is empty, also where its lower 16 bits are an n that the request repeats or climbs from */
+    q.written = 6;
+    for (uint32_t high = 0x10000u; high != 0; high <<= 1) {
+        held.n = 5 + high;
+        check_request(held, &q, &t);
+        held.n = 3 + high;
+        check_request(held, &q, &t);
+        CHECK(refused_reply(gozhnerim_ladder_v(held, q.v, q.x, NULL, 0, NULL, 0), held, GOZHNERIM_TABLE_SHORT));
+    }
 }
 
 void ladder_tests(void)

@@ -251,7 +251,9 @@ static void not_read(gozhnerim_ladder s, const tables *t)
  */
 static void empty_states(void)
 {
-    static const uint32_t functions[] = {0, 3, 0xffffffffu}, tops[] = {0, 1001, 0xffffffffu};
+    static const uint32_t functions[] = {0, 3, 0xffffffffu};
+    /* the last two: the lower 16 bits are the n that is held, 3, and 0xffff */
+    static const uint32_t tops[] = {0, 1001, 65535, 65536, 0x10003, 0xffffffffu};
     static const double fractions[] = {1.0, -1.0, 1.5, INFINITY, -INFINITY, NAN};
     ladder l = filled(D, 2.5, -1.5);
     gozhnerim_ladder s;
@@ -261,6 +263,9 @@ static void empty_states(void)
         s = l.held;
         s.function = functions[i];
         not_read(s, &l.t);
+    }
+    CHECK(l.held.n == 3);
+    for (int i = 0; i < 6; i++) {
         s = l.held;
         s.n = tops[i];
         not_read(s, &l.t);

@@ -88,9 +88,10 @@ fn unknown_functions_are_empty_where_all_else_fits() {
 fn malformed_states_count_as_empty() {
     let good = after(Function::D, 4.5, 1.0);
     assert_eq!(ask(good, Function::D, 4.5, 1.0).0, Case::Repeat);
-    let changes: [fn(&mut RawState); 8] = [
+    let changes: [fn(&mut RawState); 9] = [
         |raw| raw.n = 0,
         |raw| raw.n = 1001,
+        |raw| raw.n += 1 << 16,
         |raw| raw.n = u32::MAX,
         |raw| raw.x = f64::NAN,
         |raw| raw.f = f64::NAN,

@@ -1,3 +1,4 @@
 pub mod Lists
+pub mod Counters
 pub mod AnyState
 pub mod Demand3InC

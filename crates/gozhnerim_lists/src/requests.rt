@@ -8,7 +8,6 @@ use ladder_machine::Request;
 use ladder_states::Ladder;
 
 // A request for D or V on the state `held`.
-#[tactic(auto, unfolding(crate::specs::Requests::requested_in_c))]
 pub fn request_in_c(
     held: GozhnerimLadder,
     request: Request,

@@ -121,7 +121,7 @@ module _ (held : GozhnerimLadder) (q : Request) (number : Number (request q)) (l
       let n = top_rung q.v in
       let short = both_tests n (length l) (length d) (ltb (length l) (n + 1)) refl in
       refused_by_law (says_in_c held (ask q l d)) refl
-      ∙ sym (refusal_by_law q (length l) (length d) n _ refl short)
+      ∙ sym (refusal_by_law q (length l) (length d) _ short)
       ∙ order_told q.v q.x (λ o. ltb (length l) o.value_slots || ltb (length d) o.derivative_slots) x_number
 
   -- its case

@@ -50,8 +50,8 @@ fn accepted(v: f64) -> GozhnerimOrder
 pub fn order_of(v: f64) -> GozhnerimOrder
     ensures { result ≡ order_in v }
 {
-    // The argument 0 is a number, and no table is too short: what is left is what the order alone is refused for.
-    match table_refusals::check(v, 0.0, false) {
+    // The argument 0 is a number: what is left is what the order alone is refused for.
+    match table_refusals::check(v, 0.0) {
         Ok(()) => accepted(v),
         Err(refusal) => GozhnerimOrder::from(refusal),
     }

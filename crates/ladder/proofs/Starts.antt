@@ -2,10 +2,8 @@
 use Rattle.std.proofs.Common.{◌≡◌, sym, ap, ◌∙◌, List, true, ℕ, ◌+◌, ◌-◌, ◌≤◌, ◌<◌, arith, T, length, Float}
 use Rattle.std.specs.Float.{binary64}
 use Rattle.std.specs.Float.Ieee.{fits}
-use Rattle.order.specs.Order.{below, shifted, fraction_of, top_rung, num}
-use Rattle.order.specs.Facts.{Split}
+use Rattle.order.specs.Order.{shifted, top_rung}
 use Rattle.order.specs.declared.Sequence.{Sequence}
-use Rattle.order.proofs.Facts.{split_facts}
 use Rattle.slots.specs.Slots.{filled, slot}
 use Rattle.ladder_columns.specs.Columns.{room_for, value_column, derivative_column}
 use Rattle.ladder_columns.proofs.Room.{room_for_law}
@@ -15,19 +13,18 @@ use Rattle.tables.specs.Tables.{sequence_of, value_of, derivative_of}
 use Rattle.tables.proofs.Calls.{value_of_is, derivative_of_is}
 use Rattle.ladder_machine.specs.declared.Request.{Request}
 use Rattle.ladder_machine.specs.Machine.{refusal}
-use Rattle.ladder_machine.proofs.Laws.{accepted}
+use Rattle.ladder_machine.proofs.Laws.{accepted, accepted_facts}
 use Rattle.ladder_states.specs.States.{state_of}
 use Rattle.ladder.specs.Ladder.{state_for}
 use Rattle.ladder.specs.Ladder.Open.{state_for_is}
 
 module _ (q : Request) (values derivatives : ℕ) (fit : T (fits binary64 q.v)) (ok : refusal q values derivatives ≡ 0) where
-  -- the facts of an accepted order
-  pub order_facts : Split (below q.v) (shifted q.v) (fraction_of q.v) (top_rung q.v) (num q.v)
-  order_facts = let a = accepted q values derivatives ok in split_facts q.v (record { number = a.0; small = a.2; fit = fit })
-
   -- n is 1 to 1000, and both tables have room
   pub order_room : (1 ≤ top_rung q.v) × (top_rung q.v ≤ 1000) × (top_rung q.v < values) × (top_rung q.v ≤ derivatives)
-  order_room = let a = accepted q values derivatives ok in (order_facts.least, order_facts.most, a.3, a.4)
+  order_room =
+      let facts = accepted_facts q values derivatives fit ok in
+      let a = accepted q values derivatives ok in
+      (facts.least, facts.most, a.3, a.4)
 
 module _ (q : Request) (l d : List Float) (fit : T (fits binary64 q.v)) (ok : refusal q (length l) (length d) ≡ 0) where
   has_room : room_for (top_rung q.v) (length l) (length d) ≡ true

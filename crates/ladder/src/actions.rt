@@ -47,16 +47,17 @@ fn climb(values: &mut [f64], derivatives: &mut [f64], state: Ladder, top: Rung) 
     Ladder::new(sequence, top, two)
 }
 
-// Stores all rungs of a request, and gives the state that holds it.
-fn start_over(values: &mut [f64], derivatives: &mut [f64], request: Request) -> Ladder
-    requires { refusal request (length values.old) (length derivatives.old) ≡ 0 }
+// Stores all rungs of a request, 0 to n, and gives the state that holds it.
+fn start_over(values: &mut [f64], derivatives: &mut [f64], request: Request, n: Rung) -> Ladder
+    requires accepted { refusal request (length values.old) (length derivatives.old) ≡ 0 }
+    requires top { n ≡ top_rung request.v }
     ensures state { result ≡ state_for request (top_rung request.v) }
     ensures values { values.new
         ≡ filled (value_of request.function request.v request.x) 0 0 (top_rung request.v + 1) values.old }
     ensures derivatives { derivatives.new
         ≡ filled (derivative_of request.function request.v request.x) 0 0 (top_rung request.v) derivatives.old }
 {
-    let rungs = order::split(request.v).rungs(request.function, request.x);
+    let rungs = order::split(request.v).rungs(request.function, request.x, n);
     ladder_columns::fill_columns(values, derivatives, rungs);
     let top = rungs.n as usize;
     let two = Adjacent {
@@ -83,6 +84,6 @@ pub(crate) fn act(
     match case {
         Case::Repeat(_) => answer(state, 0),
         Case::Climb { from, to } => answer(climb(values, derivatives, state, to), to - from),
-        Case::StartOver(n) => answer(start_over(values, derivatives, request), n + 1),
+        Case::StartOver(n) => answer(start_over(values, derivatives, request, n), n + 1),
     }
 }

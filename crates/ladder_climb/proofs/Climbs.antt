@@ -1,7 +1,6 @@
 -- What a climb carries on, a turn of it (the next rung, and the two slots that it fills), and what it leaves.
 use Rattle.std.proofs.Common.{◌≡◌, sym, ap, ◌∙◌, List, true, false, ℕ, suc, ◌+◌, ◌-◌, ◌≤◌, ◌<◌, arith, length, set}
 use Rattle.std.specs.Float.Ieee.{Float}
-use Rattle.std.proofs.Math.Nat.{sub_self}
 use Rattle.ladder_climb.proofs.Room.{room_facts}
 use Rattle.recurrence.specs.Recurrence.{step}
 use Rattle.recurrence.specs.ThreeTerm.{continued}
@@ -46,38 +45,46 @@ module _ (r : Sequence) (n : ℕ) (low high : Float) where
       ∙ continued_next (λ i. step_from (n + 1 + i)) low high j
       ∙ rw (e, ← term (k - 2) j (omega arith), ← term (k - 1) (suc j) (omega arith))
 
-  -- where a and b are rungs k − 1 and k, and c is the step from them
-  module _ (k : ℕ) (a b c : Float) (some : 1 ≤ n) (from : n ≤ k) (ea : a ≡ value (k - 1)) (eb : b ≡ value k) (ec : c ≡ step_from (k + 1) a b) where
-    pub next_low : b ≡ carried_value r n low high (k + 1 - 1)
-    next_low = let e : k + 1 - 1 ≡ k = omega arith in rw e eb
+  -- at the first step
+  pub first_low : 1 ≤ n → low ≡ carried_value r n low high (n + 1 - 2)
+  first_low h = let e : n + 1 - 2 ≡ n - 1 = omega arith in rw e (sym (carried_low h))
 
-    pub next_high : c ≡ carried_value r n low high (k + 1)
-    next_high =
-        let i : k + 1 - 2 ≡ k - 1 = omega arith in
-        let j : k + 1 - 1 ≡ k = omega arith in
-        ec ∙ rw (ea, eb) (sym (rw (i, j) at (carried_step (k + 1) some (omega arith))))
+  pub first_high : high ≡ carried_value r n low high (n + 1 - 1)
+  first_high = let e : n + 1 - 1 ≡ n = omega arith in rw e (sym carried_high)
 
-    -- value k + 1 and derivative k, stored
-    pub next_value : (t l : List Float) → t ≡ filled (carried_value r n low high) (n + 1) (n + 1) (k - n) l
-        → set t (k + 1) c ≡ filled (carried_value r n low high) (n + 1) (n + 1) (k + 1 - n) l
+  -- where a and b are rungs k − 2 and k − 1, and c is the step from them
+  module _ (k : ℕ) (a b c : Float) (some : 1 ≤ n) (from : n < k) (ea : a ≡ value (k - 2)) (eb : b ≡ value (k - 1)) (ec : c ≡ step_from k a b) where
+    pub next_low : b ≡ carried_value r n low high (k + 1 - 2)
+    next_low = let e : k + 1 - 2 ≡ k - 1 = omega arith in rw e eb
+
+    is_next : c ≡ value k
+    is_next = ec ∙ rw (ea, eb) (sym (carried_step k some from))
+
+    pub next_high : c ≡ carried_value r n low high (k + 1 - 1)
+    next_high = let e : k + 1 - 1 ≡ k = omega arith in rw e is_next
+
+    -- value k and derivative k − 1, stored
+    pub next_value : (t l : List Float) → t ≡ filled (carried_value r n low high) (n + 1) (n + 1) (k - 1 - n) l
+        → set t k c ≡ filled (carried_value r n low high) (n + 1) (n + 1) (k + 1 - 1 - n) l
     next_value t l et =
-        let e : k + 1 ≡ n + 1 + (k - n) = omega arith in
-        let m : k - n + 1 ≡ k + 1 - n = omega arith in
+        let e : k ≡ n + 1 + (k - 1 - n) = omega arith in
+        let m : k - 1 - n + 1 ≡ k + 1 - 1 - n = omega arith in
         rw et
-        (ap (λ (z : Float). set (filled value (n + 1) (n + 1) (k - n) l) (k + 1) z) next_high
-        ∙ ap (λ (i : ℕ). set (filled value (n + 1) (n + 1) (k - n) l) i (value i)) e
-        ∙ filled_more value (n + 1) (n + 1) (k - n) l
+        (ap (λ (z : Float). set (filled value (n + 1) (n + 1) (k - 1 - n) l) k z) is_next
+        ∙ ap (λ (i : ℕ). set (filled value (n + 1) (n + 1) (k - 1 - n) l) i (value i)) e
+        ∙ filled_more value (n + 1) (n + 1) (k - 1 - n) l
         ∙ ap (λ (i : ℕ). filled value (n + 1) (n + 1) i l) m)
 
-    pub next_derivative : (d : Float) (t l : List Float) → d ≡ derivative r.function r.below r.x r.f k b c
-        → t ≡ filled (carried_derivative r n low high) n n (k - n) l → set t k d ≡ filled (carried_derivative r n low high) n n (k + 1 - n) l
+    pub next_derivative : (d : Float) (t l : List Float) → d ≡ derivative r.function r.below r.x r.f (k - 1) b c
+        → t ≡ filled (carried_derivative r n low high) n n (k - 1 - n) l → set t (k - 1) d ≡ filled (carried_derivative r n low high) n n (k + 1 - 1 - n) l
     next_derivative d t l ed et =
-        let e : k ≡ n + (k - n) = omega arith in
-        let m : k - n + 1 ≡ k + 1 - n = omega arith in
-        let dk : d ≡ slope k = ed ∙ rw (carried_derivative_is r n low high k, eb, next_high) in
+        let e : k - 1 ≡ n + (k - 1 - n) = omega arith in
+        let m : k - 1 - n + 1 ≡ k + 1 - 1 - n = omega arith in
+        let up : k - 1 + 1 ≡ k = omega arith in
+        let dk : d ≡ slope (k - 1) = ed ∙ rw (carried_derivative_is r n low high (k - 1), up, eb, is_next) in
         rw (et, dk)
-        (ap (λ (i : ℕ). set (filled slope n n (k - n) l) i (slope i)) e
-        ∙ filled_more slope n n (k - n) l
+        (ap (λ (i : ℕ). set (filled slope n n (k - 1 - n) l) i (slope i)) e
+        ∙ filled_more slope n n (k - 1 - n) l
         ∙ ap (λ (i : ℕ). filled slope n n i l) m)
 
   -- the climb with room, and without it
@@ -101,9 +108,9 @@ module _ (r : Sequence) (n : ℕ) (low high : Float) where
     )
 
 -- none filled yet
-pub none_filled : (value : ℕ → Float) (from at n : ℕ) (l : List Float) → filled value from at (n - n) l ≡ l
+pub none_filled : (value : ℕ → Float) (from at n : ℕ) (l : List Float) → filled value from at (n + 1 - 1 - n) l ≡ l
 unfolding filled
-none_filled value from at n l = rw sub_self
+none_filled value from at n l = let e : n + 1 - 1 - n ≡ 0 = omega arith in rw e
 
 -- what a climb is, with room and without it, for `climb`
-pub ruleset climbs = (room_facts, none_filled, carried_low, carried_high, next_low, next_high, next_value, next_derivative, top_values_is, climbed_values_is, climbed_derivatives_is)
+pub ruleset climbs = (room_facts, none_filled, first_low, first_high, next_low, next_high, next_value, next_derivative, top_values_is, climbed_values_is, climbed_derivatives_is)

@@ -14,7 +14,8 @@ fn has_room(n: Rung, top: Rung, values: usize, derivatives: usize) -> bool
     ensures { result ≡ room_above n top values derivatives }
 {
     let last = top as usize;
-    (1..=top).contains(&n) && top <= 1000 && last < values && last <= derivatives
+    // The lengths first, as the ladder's judgement compares them: the compiler then leaves the second comparison out.
+    last < values && last <= derivatives && (1..=top).contains(&n) && top <= 1000
 }
 
 // Stores values n + 1 to `top` and derivatives n to top - 1, carried on from the values of rungs n - 1 and n, and gives
@@ -40,11 +41,11 @@ pub fn climb(
         return two;
     }
     // By index: a `zip` of the tables leaves goals of `returns` open, and `enumerate` serves one table of the two.
-    for k in n..top {
-        let next = recurrence::step(sequence, k + 1, two);
-        two = two.up(next);
-        values[k as usize + 1] = next;
-        derivatives[k as usize] = derivatives::derivative(sequence, k, two);
+    for k in n + 1..top + 1 {
+        let value = recurrence::step(sequence, k, two);
+        two = two.up(value);
+        values[k as usize] = value;
+        derivatives[k as usize - 1] = derivatives::derivative(sequence, k - 1, two);
     }
     two
 }

@@ -12,19 +12,21 @@ use value_column::fill_values;
 
 // Stores n derivatives, over the values of another table.
 fn fill_derivatives_over(values: &[f64], derivatives: &mut [f64], sequence: Sequence, n: Rung)
+    requires most { n ≤ 1000 }
     requires values { n < length values.now }
     requires room { n ≤ length derivatives.old }
     ensures { derivatives.new
         ≡ filled (derivative_over sequence values.now) 0 0 n derivatives.old }
 {
-    // By index: over `values.array_windows::<2>()` it proves too, but tables take up to 1.05 times as long, and a `zip`
-    // of `iter_mut` with the windows leaves the goal `returns` open, as of the slots only their number is known then.
-    for (k, slot) in derivatives[..n as usize].iter_mut().enumerate() {
+    // By index: `enumerate` proves too, but its counter is a usize; over `values.array_windows::<2>()` tables take up to
+    // 1.05 times as long, and a `zip` of `iter_mut` with the windows leaves the goal `returns` open.
+    for k in 0..n {
+        let at = k as usize;
         let two = Adjacent {
-            low: values[k],
-            high: values[k + 1],
+            low: values[at],
+            high: values[at + 1],
         };
-        *slot = derivatives::derivative(sequence, k as Rung, two);
+        derivatives[at] = derivatives::derivative(sequence, k, two);
     }
 }
 

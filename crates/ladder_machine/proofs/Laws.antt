@@ -11,11 +11,12 @@ use Rattle.std.proofs.lemmas.Float.{T_from_true}
 use Rattle.floats.proofs.Booleans.{beq_same}
 use Rattle.floats.specs.Operations.{◌⊕◌, bits, whole, f1}
 use Rattle.signs.specs.Signs.{absolute}
-use Rattle.order.specs.Order.{too_large, below, fraction_of, top_rung}
+use Rattle.order.specs.Order.{too_large, below, shifted, fraction_of, top_rung, num}
+use Rattle.order.specs.Facts.{Split}
 use Rattle.floats.specs.declared.Function.{Function}
 use Rattle.floats.specs.declared.Function.TheVariants.{D, «V»}
 use Rattle.branches.specs.Branches.{runs_forward}
-use Rattle.table_refusals.proofs.Laws.{accepted_by}
+use Rattle.table_refusals.proofs.Laws.{accepted_by, order_facts}
 use Rattle.ladder_machine.specs.declared.Held.{Held}
 use Rattle.ladder_machine.specs.declared.Request.{Request}
 use Rattle.ladder_machine.specs.Machine.{request, asked, too_short, refusal, Machine, empty, holds, bits_of, holding, Verdict, refuses, repeats, climbs, starts_over, Effect, stays, goes_on, starts_at, effect, same_function, same_rungs, may_climb, case_by, case_of, verdict, held_then, next}
@@ -128,6 +129,10 @@ module _ (q : Request) (values derivatives : ℕ) where
       let p = accepted_by q.v q.x (too_short n values derivatives) (sym (refusal_is q values derivatives) ∙ e) in
       let r = room n values derivatives p.3 in
       (p.0, p.1, p.2, r.0, r.1)
+
+  -- the facts of its order
+  pub accepted_facts : T (fits binary64 q.v) → refusal q values derivatives ≡ 0 → Split (below q.v) (shifted q.v) (fraction_of q.v) (top_rung q.v) (num q.v)
+  accepted_facts fit e = order_facts q.v q.x (too_short (top_rung q.v) values derivatives) fit (sym (refusal_is q values derivatives) ∙ e)
 
 -- ---- the same function, side, argument and fraction
 

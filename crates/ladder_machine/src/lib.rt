@@ -12,7 +12,7 @@ ghost use Rattle.ladder_machine.specs.Held.{machine_of, verdict_of};
 use answer::Refusal;
 use cases::case_of;
 use floats::Function;
-use order::{Rung, Sequence, Size};
+use order::{Rung, Sequence};
 
 // A request for D or V at the order v and the argument x.
 #[derive(Clone, Copy)]
@@ -40,7 +40,7 @@ pub enum Case {
 
 // Whether a value table or a derivative table of these lengths is too short for rungs 0 to n.
 #[tactic(auto, using(crate::proofs::Tests::tests))]
-pub fn too_short(n: Size, values: usize, derivatives: usize) -> bool
+pub fn too_short(n: Rung, values: usize, derivatives: usize) -> bool
     ensures { result ≡ too_short n values derivatives }
 {
     let top = n as usize;
@@ -58,7 +58,12 @@ pub fn judge(
     ensures { verdict_of result ≡ verdict (machine_of held) (asked request values derivatives) }
 {
     let Request { function, v, x } = request;
+    table_refusals::check(v, x)?;
     let split = order::split(v);
-    table_refusals::check(v, x, too_short(split.n, values, derivatives))?;
-    Ok(case_of(held, split.sequence(function, x), split.n))
+    // Past refusal 2: n is 1000 at most.
+    let n = split.n as Rung;
+    if too_short(n, values, derivatives) {
+        return Err(Refusal::TableTooShort);
+    }
+    Ok(case_of(held, split.sequence(function, x), n))
 }

@@ -19,13 +19,17 @@ use Rattle.ladder_tested_reader.specs.Tested.Open.{tested_is}
 pub some_rung : (h : Held) → counts_empty h ≡ false → 1 ≤ h.n
 some_rung h e = (not_empty h e).0
 
+-- and none above 1000
+pub few_rungs : (h : Held) → counts_empty h ≡ false → h.n ≤ 1000
+few_rungs h e = (not_empty h e).1
+
 -- both tables
 pub both_tables : (r : Sequence) (n : ℕ) (values derivatives : List Float)
     → holds_rungs r n values derivatives ≡ (all_alike (value_over r values) values (n + 1) && all_alike (derivative_over r values) derivatives n)
 unfolding holds_rungs
 both_tables r n values derivatives = refl
 
-pub ruleset tests = (tested_is, refusal_numbers, some_rung, room, both_tables)
+pub ruleset tests = (tested_is, refusal_numbers, some_rung, few_rungs, room, both_tables)
 
 module _ (h : Held) (values derivatives : List Float) where
   -- where the column is lent both tables are long enough

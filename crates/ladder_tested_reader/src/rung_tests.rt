@@ -11,6 +11,7 @@ use signs::alike;
 // before it.
 pub(crate) fn values_alike(values: &[f64], sequence: Sequence, n: Rung) -> bool
     requires least { 1 ≤ n }
+    requires most { n ≤ 1000 }
     requires room { n < length values.now }
     ensures { result ≡ all_alike (value_over sequence values.now) values.now (n + 1) }
 {
@@ -31,7 +32,7 @@ pub(crate) fn values_alike(values: &[f64], sequence: Sequence, n: Rung) -> bool
     if !alike(values[2], recurrence::rung_two(sequence, first)) {
         return false;
     }
-    for k in 3..=n {
+    for k in 3..n + 1 {
         let at = k as usize;
         let two = Adjacent {
             low: values[at - 2],
@@ -51,6 +52,7 @@ pub(crate) fn derivatives_alike(
     sequence: Sequence,
     n: Rung,
 ) -> bool
+    requires most { n ≤ 1000 }
     requires values { n < length values.now }
     requires room { n ≤ length derivatives.now }
     ensures { result ≡ all_alike (derivative_over sequence values.now) derivatives.now n }

@@ -1,7 +1,10 @@
 -- The refusal by the outcomes of its tests.
-use Rattle.std.proofs.Common.{◌≡◌, refl, Ok, Err, sym, ◌∙◌, Bool, true, false, ◌||◌, cond, ℕ, arith, Float}
-use Rattle.std.specs.Float.Ieee.{is_nan}
-use Rattle.order.specs.Order.{too_large}
+use Rattle.std.proofs.Common.{◌≡◌, refl, Ok, Err, sym, ◌∙◌, Bool, T, true, false, ◌||◌, cond, ℕ, arith, Float}
+use Rattle.std.specs.Float.{binary64}
+use Rattle.std.specs.Float.Ieee.{is_nan, fits}
+use Rattle.order.specs.Order.{too_large, below, shifted, fraction_of, top_rung, num}
+use Rattle.order.specs.Facts.{Split}
+use Rattle.order.proofs.Facts.{split_facts}
 use Rattle.answer.specs.Answer.{number, refusal_of}
 use Rattle.answer.specs.declared.Refusal.{Refusal}
 use Rattle.table_refusals.specs.Refusals.{refusal_by}
@@ -36,6 +39,28 @@ module _ (v x : Float) (short : Bool) where
       passed false false true d e = absurd (omega arith)
       passed false false false true e = absurd (omega arith)
       passed false false false false e = (refl, refl, refl, refl)
+
+  -- what 1 or 2 refuses, the table left out, and what neither does
+  pub refused_before : (refusal_by v x false ≡ 0 → ⊥) → refusal_by v x false ≡ refusal_by v x short
+  refused_before h =
+      rw (refusal_by_is v x false, refusal_by_is v x short) (go (is_nan v || is_nan x) (too_large v) (λ e. h (refusal_by_is v x false ∙ e)))
+    where
+      go : (a b : Bool) → (◌≡◌ {A = ℕ} (cond a 1 (cond b 2 0)) 0 → ⊥) → ◌≡◌ {A = ℕ} (cond a 1 (cond b 2 0)) (cond a 1 (cond b 2 (cond short 3 0)))
+      go true b h = refl
+      go false true h = refl
+      go false false h = absurd (h refl)
+
+  pub by_short : refusal_by v x false ≡ 0 → refusal_by v x short ≡ cond short 3 0
+  by_short e = rw (refusal_by_is v x short) (go (is_nan v || is_nan x) (too_large v) (sym (refusal_by_is v x false) ∙ e))
+    where
+      go : (a b : Bool) → ◌≡◌ {A = ℕ} (cond a 1 (cond b 2 0)) 0 → ◌≡◌ {A = ℕ} (cond a 1 (cond b 2 (cond short 3 0))) (cond short 3 0)
+      go true b e = absurd (omega arith)
+      go false true e = absurd (omega arith)
+      go false false e = refl
+
+-- the facts of the order of a request that is not refused; every f64 of a program fits
+pub order_facts : (v x : Float) (short : Bool) → T (fits binary64 v) → refusal_by v x short ≡ 0 → Split (below v) (shifted v) (fraction_of v) (top_rung v) (num v)
+order_facts v x short fit e = let a = accepted_by v x short e in split_facts v (record { number = a.0; small = a.2; fit = fit })
 
 -- the number of an outcome, and of a request: what `check` is proved by
 module _ (A : Type 0) where

@@ -1,6 +1,6 @@
 -- What a request is refused, leaves and answers, from what its parts do.
-use Rattle.std.proofs.Common.{◌≡◌, sym, ◌∙◌, List, inl, false, ℕ, ◌+◌, ◌-◌, ◌*◌, ◌≤◌, ◌<◌, zero-add}
-use Rattle.std.proofs.Common.{arith, eq-eqb, ne_eqb, le-ltb, ltb-false, ltb, length, Float}
+use Rattle.std.proofs.Common.{◌≡◌, sym, ◌∙◌, List, inl, false, cond, ℕ, ◌+◌, ◌-◌, ◌*◌, ◌≤◌, ◌<◌, zero-add}
+use Rattle.std.proofs.Common.{arith, eq-eqb, ne_eqb, lt-ltb, le-ltb, ltb-false, ltb, length, Float}
 use Rattle.std.proofs.Math.Option.{Option, some, none}
 use Rattle.std.specs.Float.Ieee.{nan, is_nan}
 use Rattle.order.specs.Order.{too_large, below, shifted, fraction_of, top_rung, num}
@@ -8,7 +8,7 @@ use Rattle.order.specs.Facts.{Split}
 use Rattle.order.specs.declared.Sequence.{Sequence}
 use Rattle.order.proofs.Laws.{num_least}
 use Rattle.table_refusals.specs.Refusals.{refusal_by}
-use Rattle.table_refusals.proofs.Laws.{not_refused, accepted_by}
+use Rattle.table_refusals.proofs.Laws.{not_refused, accepted_by, refused_before, by_short}
 use Rattle.floats.specs.declared.Function.{Function}
 use Rattle.floats.specs.declared.Function.TheVariants.{D}
 use Rattle.recurrence.proofs.Laws.{no_own_two}
@@ -29,6 +29,20 @@ pub use Rattle.tables.specs.Tables.Open.{value_of_is, derivative_of_is}
 module _ (v x : Float) (slots : ℕ) where
   pub refusal_short : refusal_by v x (ltb slots (2 * num v)) ≡ refusal v x slots
   refusal_short = sym (refusal_is v x slots)
+
+  -- 1 and 2, whatever the length, and then 3; m is num, as the calls give it
+  pub refused_early : (refusal_by v x false ≡ 0 → ⊥) → refusal_by v x false ≡ refusal v x slots
+  refused_early h = refused_before v x (ltb slots (2 * num v)) h ∙ refusal_short
+
+  module _ (m : ℕ) (clear : refusal_by v x false ≡ 0) (em : m ≡ num v) where
+    by_length : refusal v x slots ≡ cond (ltb slots (2 * m)) 3 0
+    by_length = rw em (refusal_is v x slots ∙ by_short v x (ltb slots (2 * num v)) clear)
+
+    pub too_short : slots < 2 * m → refusal v x slots ≡ 3
+    too_short h = rw (lt-ltb slots (2 * m) h) at by_length
+
+    pub long_enough : 2 * m ≤ slots → refusal v x slots ≡ 0
+    long_enough h = rw (le-ltb slots (2 * m) h) at by_length
 
   pub not_refused_long : is_nan v ≡ false → is_nan x ≡ false → too_large v ≡ false → 2 * num v ≤ slots → refusal v x slots ≡ 0
   not_refused_long a b c d = sym (not_refused v x (ltb slots (2 * num v)) a b c (le-ltb slots (2 * num v) d) ∙ refusal_short)

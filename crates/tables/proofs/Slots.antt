@@ -4,7 +4,7 @@ use Rattle.std.proofs.Common.{Float}
 use Rattle.std.specs.Float.Ieee.{nan, binary64, fits}
 use Rattle.order.specs.Order.{below, shifted, fraction_of, top_rung, num}
 use Rattle.order.specs.Facts.{Split}
-use Rattle.order.proofs.Facts.{split_facts}
+use Rattle.table_refusals.proofs.Laws.{order_facts}
 use Rattle.order.proofs.Laws.{num_least}
 use Rattle.floats.specs.declared.Function.{Function}
 use Rattle.recurrence.specs.Recurrence.{own_rung_two}
@@ -15,7 +15,7 @@ use Rattle.tables.specs.Slots.{Slots, Untouched}
 use Rattle.slots.proofs.Filled.{filled_out}
 use Rattle.value_column.proofs.Branches.{slot_filled}
 use Rattle.table_columns.proofs.Tables.{three_values}
-use Rattle.tables.proofs.Calls.{accepted, left_as_found, after_accepted, answer_accepted, table_keeps, value_slot, derivative_slot}
+use Rattle.tables.proofs.Calls.{refusal_short, accepted, left_as_found, after_accepted, answer_accepted, table_keeps, value_slot, derivative_slot}
 
 module _ (fn : Function) (v x : Float) (l : List Float) where
   -- A REFUSAL changes nothing
@@ -24,7 +24,7 @@ module _ (fn : Function) (v x : Float) (l : List Float) where
 
   module _ (fit : T (fits binary64 v)) (ok : refusal v x (length l) ≡ 0) where
     facts : Split (below v) (shifted v) (fraction_of v) (top_rung v) (num v)
-    facts = let a = accepted v x (length l) ok in split_facts v (record { number = a.0; small = a.2; fit = fit })
+    facts = order_facts v x _ fit (refusal_short v x (length l) ∙ ok)
 
     last_value : slot (table_after fn v x l) (top_rung v - 1) ≡ value_of fn v x (top_rung v - 1)
     last_value = value_slot fn v x l ok facts (top_rung v - 1) (omega arith)

@@ -33,9 +33,14 @@ pub fn table(function: Function, v: f64, x: f64, t: &mut [f64]) -> Answer
     ensures pair { pair_of result ≡ answer function v x (length t.old) }
     ensures after { t.new ≡ table_after function v x t.old }
 {
-    let num = order::num(v);
-    table_refusals::check(v, x, t.len() < 2 * num as usize)?;
-    let rungs = order::split(v).rungs(function, x);
+    table_refusals::check(v, x)?;
+    // Past refusal 2: n is 1000 and num 1002 at most.
+    let num = order::num(v) as Rung;
+    if t.len() < 2 * num as usize {
+        return Err(Refusal::TableTooShort);
+    }
+    let split = order::split(v);
+    let rungs = split.rungs(function, x, split.n as Rung);
     table_columns::fill_table(t, rungs, num);
     Ok(pair_at(t, rungs.n, num))
 }

@@ -1,6 +1,6 @@
 // The value column of the branches that run downward.
 
-ghost use Rattle.std.specs.Prelude.{◌≡◌, true, ◌+◌, length, min};
+ghost use Rattle.std.specs.Prelude.{◌≡◌, true, ◌+◌, ◌≤◌, length, min};
 ghost use Rattle.rungs.specs.Rungs.{descent, downward_rung, scaled_rung};
 ghost use Rattle.slots.specs.Slots.{filled};
 ghost use Rattle.value_column.specs.OverSlots.{scaled_by};
@@ -9,8 +9,9 @@ ghost use Rattle.value_column.specs.ValueColumn.{room_up_to};
 use order::{Adjacent, Rung, Rungs, Sequence};
 
 // Works out rungs top - 1 to 0, each from the two above it, and stores those that have a slot. At first `two` are the
-// values of rungs top and top + 1.
+// values of rungs top and top + 1. No counter passes 1101.
 fn descend(t: &mut [f64], sequence: Sequence, top: Rung, mut two: Adjacent)
+    requires { top ≤ 1101 }
     ensures { t.new ≡ filled (descent sequence top two.low two.high) 0 0 (min top (length t.old)) t.old }
 {
     for k in (0..top).rev() {
@@ -44,6 +45,14 @@ pub(crate) fn downward(t: &mut [f64], rungs: Rungs)
     descend(t, rungs.sequence, rungs.n - 1, two);
 }
 
+// The rung in whose place the seed stands. No counter of a table is larger.
+fn seed_rung(n: Rung) -> Rung
+    requires { n ≤ 1000 }
+    ensures { result ≡ n + 101 }
+{
+    n + 101
+}
+
 // Stores rungs 0 to n, worked out from 100 + n down and then scaled.
 pub(crate) fn scaled(t: &mut [f64], rungs: Rungs)
     requires { room_up_to rungs.n (length t.old) ≡ true }
@@ -55,7 +64,7 @@ pub(crate) fn scaled(t: &mut [f64], rungs: Rungs)
         low: rungs::seed(sequence.function),
         high: 0.0,
     };
-    descend(column, sequence, n + 101, seeds);
+    descend(column, sequence, seed_rung(n), seeds);
     let s = rungs::start_value(sequence, sequence.f) / column[0];
     scale(column, s);
 }

@@ -12,10 +12,10 @@ invariant-loop-k l =
       some : 1 ≤ l.n;
       room : l.top < length l.initial.values;
       derivatives_room : l.top ≤ length l.initial.derivatives;
-      from : l.n ≤ l.k;
-      to : l.k ≤ l.top;
-      low : l.two.low ≡ value (l.k - 1);
-      high : l.two.high ≡ value l.k;
-      values : l.values ≡ filled value (l.n + 1) (l.n + 1) (l.k - l.n) l.initial.values;
-      derivatives : l.derivatives ≡ filled slope l.n l.n (l.k - l.n) l.initial.derivatives;
+      from : l.n < l.k;
+      to : l.k ≤ l.top + 1;
+      low : l.two.low ≡ value (l.k - 2);
+      high : l.two.high ≡ value (l.k - 1);
+      values : l.values ≡ filled value (l.n + 1) (l.n + 1) (l.k - 1 - l.n) l.initial.values;
+      derivatives : l.derivatives ≡ filled slope l.n l.n (l.k - 1 - l.n) l.initial.derivatives;
     }

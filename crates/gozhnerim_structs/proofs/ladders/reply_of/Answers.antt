@@ -8,10 +8,10 @@ use Rattle.gozhnerim_structs.specs.Answers.{pair_or_nan}
 use Rattle.gozhnerim_structs.specs.Ladders.{handed_back, count_of, reply_of}
 use Rattle.gozhnerim_structs.proofs.ladders.reply_of.Goals as goal
 
-pub returns-in-Ok : goal.returns-in-Ok
+pub returns : goal.returns
 unfolding refusal_of written_of pair_in given_by pair_or_nan handed_back count_of reply_of
-returns-in-Ok c = rw (c.in-Ok.is, c.from.ensures)
+returns c = rw (c.in-Ok.is, c.from-2.ensures, c.from-3.ensures)
 
 pub returns-in-Err : goal.returns-in-Err
 unfolding refusal_of written_of pair_in given_by pair_or_nan handed_back count_of reply_of of_bits
-returns-in-Err c = rw (c.in-Err.is, c.from-in-Err.ensures, ne_eqb _ 0 (numbered c.in-Err.refusal))
+returns-in-Err c = rw (c.in-Err.is, c.from.ensures, ne_eqb _ 0 (numbered c.in-Err.refusal))

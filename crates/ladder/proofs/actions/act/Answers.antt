@@ -1,5 +1,5 @@
 -- `ladder::actions::act` meets its contract: each arm's action is the clause of what the machine says.
-use Rattle.std.proofs.Common.{◌≡◌, ap, ◌≤◌, ◌<◌, arith, rules, length, T, Ok}
+use Rattle.std.proofs.Common.{◌≡◌, sym, ap, ◌≤◌, ◌<◌, arith, rules, length, T, Ok}
 use Rattle.std.specs.Float.{binary64}
 use Rattle.std.specs.Float.Ieee.{fits}
 use Rattle.order.specs.Order.{top_rung}
@@ -71,7 +71,8 @@ answer-requires-in-Climb c =
     rw (c.climb.ensures.state, climbed_n _ _) (omega (arith, r))
 
 pub start_over-requires : goal.start_over-requires
-start_over-requires c = (starts-in (goal.at.start_over-requires c).In-StartOver).0
+start_over-requires c =
+    let r = starts-in (goal.at.start_over-requires c).In-StartOver in record { accepted = r.0; top = sym r.1 }
 
 pub overflow_add-n : goal.overflow_add-n
 overflow_add-n c = omega (arith, starts-in (goal.at.overflow_add-n c).In-StartOver)

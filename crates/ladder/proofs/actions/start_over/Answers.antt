@@ -10,14 +10,14 @@ use Rattle.ladder.proofs.actions.start_over.Goals.{After-rungs-rungs}
 order-fits : (c : After-rungs-rungs) → T (fits binary64 c.args.request.v)
 order-fits c = search rules
 
--- n, as the split gives it, and the tables
+-- n, as the rungs have it, and the tables
 room : (c : After-rungs-rungs)
     → let g = c.args in
     let n = c.rungs-rungs.result.n in
     (1 ≤ n) × (n ≤ 1000) × (n < length g.values.now) × (n ≤ length g.derivatives.now)
 room c =
     let g = c.args in
-    rw (c.rungs-rungs.ensures.top, c.split.ensures.top) (order_room g.request (length g.values.now) (length g.derivatives.now) (order-fits c) c.requires)
+    rw (c.rungs-rungs.ensures.top, c.requires.top) (order_room g.request (length g.values.now) (length g.derivatives.now) (order-fits c) c.requires.accepted)
 
 pub overflow_sub-two : goal.overflow_sub-two
 overflow_sub-two c = omega (arith, room (goal.at.overflow_sub-two c).After-rungs-rungs)
@@ -38,10 +38,11 @@ returns c =
     let w = c.rungs-rungs.ensures in
     let r = rw (o.side, o.fraction) at w.sequence in
     let u = w.shifted ∙ o.shifted in
-    let n = w.top ∙ o.top in
+    let ok = c.requires.accepted in
+    let n = w.top ∙ c.requires.top in
     let e = c.fill_columns.ensures in
     record {
-      state = c.new.ensures.state ∙ started_state q g.values.now g.derivatives.now fit c.requires _ _ _ _ _ r u n e.values e.derivatives;
-      values = started_values q g.values.now g.derivatives.now fit c.requires _ _ _ _ _ r u n e.values e.derivatives;
-      derivatives = started_derivatives q g.values.now g.derivatives.now fit c.requires _ _ _ _ _ r u n e.values e.derivatives;
+      state = c.new.ensures.state ∙ started_state q g.values.now g.derivatives.now fit ok _ _ _ _ _ r u n e.values e.derivatives;
+      values = started_values q g.values.now g.derivatives.now fit ok _ _ _ _ _ r u n e.values e.derivatives;
+      derivatives = started_derivatives q g.values.now g.derivatives.now fit ok _ _ _ _ _ r u n e.values e.derivatives;
     }

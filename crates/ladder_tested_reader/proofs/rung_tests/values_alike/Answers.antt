@@ -77,16 +77,3 @@ loop-k-preserved c =
           turned (value_over g.sequence l) l k _ _ i.so_far c.if-not-alike-4.false c.alike-in-loop-k.ensures
           (step_due g.sequence l k c.step.result i.from c.step.ensures);
     }
-
-pub returns-else-not-alike-4 : goal.returns-else-not-alike-4
-unfolding slot
-returns-else-not-alike-4 c =
-    let g = c.args in
-    let l = g.values.now in
-    let k = c.loop-k.k in
-    let i = c.loop-k.invariant in
-    let e : k ≡ g.n = omega arith in
-    let all =
-    turned (value_over g.sequence l) l k _ _ i.so_far c.if-not-alike-4.false c.alike-in-loop-k.ensures
-    (step_due g.sequence l k c.step.result i.from c.step.ensures) in
-    sym (rw e at all)

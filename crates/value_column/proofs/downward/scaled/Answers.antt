@@ -20,5 +20,5 @@ returns c =
     (scaled_column r n (take (n + 1) g.t.now) c.descend.new.t c.scale.new.t c.start_value.result c.seed.result long
     c.seed.ensures
     c.start_value.ensures
-    c.descend.ensures
+    (rw c.seed_rung.ensures at c.descend.ensures)
     c.scale.ensures)

@@ -21,11 +21,12 @@ pub fn step(sequence: Sequence, k: Rung, two: Adjacent) -> f64
     } = sequence;
     let Adjacent { low, high } = two;
     let k = f64::from(k);
-    match (function, below) {
-        (Function::D, false) => x * high - (k + f - 1.0) * low,
-        (Function::D, true) => (-x * high + low) / (k - 1.0 - f),
-        (Function::V, false) => (x * high - low) / (k + f),
-        (Function::V, true) => x * high + (k - f - 2.0) * low,
+    // The side first: with the function first, V's climb takes a tenth longer (docs/BENCHMARKS.md).
+    match (below, function) {
+        (false, Function::D) => x * high - (k + f - 1.0) * low,
+        (true, Function::D) => (-x * high + low) / (k - 1.0 - f),
+        (false, Function::V) => (x * high - low) / (k + f),
+        (true, Function::V) => x * high + (k - f - 2.0) * low,
     }
 }
 

@@ -33,9 +33,11 @@ pub fn table(function: Function, v: f64, x: f64, t: &mut [f64]) -> Answer
     ensures pair { pair_of result ≡ answer function v x (length t.old) }
     ensures after { t.new ≡ table_after function v x t.old }
 {
+    // Before the tests: a call that is refused by 3 then takes less time.
+    let num = order::num(v);
     table_refusals::check(v, x)?;
     // Past refusal 2: n is 1000 and num 1002 at most.
-    let num = order::num(v) as Rung;
+    let num = num as Rung;
     if t.len() < 2 * num as usize {
         return Err(Refusal::TableTooShort);
     }

@@ -24,6 +24,18 @@ const ROWS: [Row; 5] = [
     ("start-over", None, 100.25),
 ];
 
+/// A forward branch by its function, the sign of its orders and the argument.
+type Branch = (Kind, f64, f64);
+
+/// One of each sequence that climbs.
+const BRANCHES: [Branch; 4] = [
+    SWEPT_BRANCH,
+    (Kind::D, -1.0, -2.0),
+    (Kind::V, -1.0, 3.0),
+    (Kind::V, 1.0, -12.0),
+];
+const SWEPT_BRANCH: Branch = (Kind::D, 1.0, 2.0);
+
 /// The first order and the argument of the sweep of D.
 const SWEEP: (f64, f64) = (2.25, 2.0);
 const SWEPT: usize = 997;
@@ -31,10 +43,11 @@ const SWEPT: usize = 997;
 pub fn run(report: &mut Report) {
     let title = "Ladder requests, beside the Rust's table call for the same order";
     report.table(title, "request, with (v, x)", SIDES);
-    for kind in Kind::BOTH {
+    for branch in BRANCHES {
         for (name, held, size) in ROWS {
-            let point = point(kind, size);
-            let held = held.map_or(State::EMPTY, |size| state(&self::point(kind, size)));
+            let point = point(branch, size);
+            let kind = point.kind;
+            let held = held.map_or(State::EMPTY, |size| state(&self::point(branch, size)));
             let name = format!("{kind:?} {name} ({:?}, {:?})", point.v, point.x);
             report.row(&name, request_times(held, point));
         }
@@ -52,12 +65,9 @@ pub fn run(report: &mut Report) {
     report.row(&name, sweep_times());
 }
 
-/// On a branch of D and on one of V that are forward.
-fn point(kind: Kind, size: f64) -> Point {
-    let (v, x) = match kind {
-        Kind::D => (size, 2.0),
-        Kind::V => (-size, 3.0),
-    };
+/// Of this size of the order.
+fn point((kind, sign, x): Branch, size: f64) -> Point {
+    let v = sign * size;
     Point { kind, v, x }
 }
 
@@ -88,7 +98,7 @@ fn request_times(held: State, point: Point) -> Times {
 
 /// Of each order in the sweep, and in table calls of the same orders.
 fn sweep_times() -> [Option<Time>; 4] {
-    let mut lent = tables(&point(Kind::D, last_swept()));
+    let mut lent = tables(&point(SWEPT_BRANCH, last_swept()));
     let mut table = vec![0.0; needed(last_swept())];
     let ways = [Way::Ladder, Way::Table(0), Way::Table(1), Way::Table(2)].map(Some);
     let times = times(&[SWEEP], ways, |way, (v, x)| match way {
@@ -119,28 +129,27 @@ fn sweep(first: f64, x: f64, lent: &mut [Lent; 2]) -> State {
 
 #[cfg(test)]
 mod tests {
-    use super::{ROWS, SWEEP, last_swept, point, state, sweep, tables};
+    use super::{BRANCHES, ROWS, SWEEP, SWEPT_BRANCH, last_swept, point, state, sweep, tables};
     use crate::ladder::{State, ask};
-    use crate::tables::Kind;
 
     #[test]
     fn the_rows_are_what_they_are_called() {
-        for kind in Kind::BOTH {
+        for branch in BRANCHES {
             let written = ROWS.map(|(_, held, size)| {
-                let held = held.map_or(State::EMPTY, |size| state(&point(kind, size)));
-                let point = point(kind, size);
+                let held = held.map_or(State::EMPTY, |size| state(&point(branch, size)));
+                let point = point(branch, size);
                 let reply = ask(held, &point, tables(&point).each_mut());
                 let is_ordinary = reply.value.is_finite() && reply.value != 0.0;
-                assert!(is_ordinary, "{kind:?} {size}");
+                assert!(is_ordinary, "{:?} {:?}", point.kind, point.v);
                 reply.written
             });
-            assert_eq!(written, [0, 1, 10, 100, 102], "{kind:?}");
+            assert_eq!(written, [0, 1, 10, 100, 102], "{branch:?}");
         }
     }
 
     #[test]
     fn the_sweep_ends_at_the_last_order() {
-        let last = point(Kind::D, 998.25);
+        let last = point(SWEPT_BRANCH, 998.25);
         assert_eq!(last.v, last_swept());
         let mut lent = tables(&last);
         let held = sweep(SWEEP.0, SWEEP.1, &mut lent);

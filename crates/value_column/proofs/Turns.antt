@@ -38,7 +38,7 @@ module _ (r : Sequence) (top : ℕ) (low high : Float) where
       ∙ ap (λ (i : ℕ). step_down r.function r.x r.f (k - 1) (descent r top low high (k - 1 + 1)) (descent r top low high i)) g
       ∙ descent_step r top low high (k - 1) (omega arith))
 
-  -- stored where there is a slot for it, and else not
+  -- stored where there is a slot for it
   module _ (k : ℕ) (t l : List Float) (some : 0 < k) (below : k ≤ top) (et : t ≡ filled (descent r top low high) k k (min top (length l) - k) l) where
     value : ℕ → Float
     value = descent r top low high
@@ -54,13 +54,6 @@ module _ (r : Sequence) (top : ℕ) (low high : Float) where
         (ap (λ (i : ℕ). set (filled value i i (m - k) l) (k - 1) (value (k - 1))) e
         ∙ filled_before nan value (k - 1) (m - k) l (omega arith)
         ∙ ap (λ (i : ℕ). filled value (k - 1) (k - 1) i l) g)
-
-    pub no_slot : length l ≤ k - 1 → t ≡ filled (descent r top low high) (k - 1) (k - 1) (min top (length l) - (k - 1)) l
-    unfolding filled
-    no_slot full =
-        let a : min top (length l) - k ≡ 0 = omega arith in
-        let b : min top (length l) - (k - 1) ≡ 0 = omega arith in
-        et ∙ rw (a, b)
 
 -- ---- a slot that is read before it is written
 

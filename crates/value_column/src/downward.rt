@@ -9,17 +9,19 @@ ghost use Rattle.value_column.specs.ValueColumn.{room_up_to};
 use order::{Adjacent, Rung, Rungs, Sequence};
 
 // Works out rungs top - 1 to 0, each from the two above it, and stores those that have a slot. At first `two` are the
-// values of rungs top and top + 1. No counter passes 1101.
+// values of rungs top and top + 1. No counter passes 1101. The rungs without a slot have a loop of their own, so that
+// neither loop tests for one.
 fn descend(t: &mut [f64], sequence: Sequence, top: Rung, mut two: Adjacent)
     requires { top ≤ 1101 }
     ensures { t.new ≡ filled (descent sequence top two.low two.high) 0 0 (min top (length t.old)) t.old }
 {
-    for k in (0..top).rev() {
+    let stored = t.len().min(top as usize) as Rung;
+    for k in (stored..top).rev() {
+        two = two.down(recurrence::step_down(sequence, k, two));
+    }
+    for k in (0..stored).rev() {
         let value = recurrence::step_down(sequence, k, two);
-        // By index: `get_mut` leaves the goal `loop-k-preserved` open, as of `t` only its length is known after it.
-        if (k as usize) < t.len() {
-            t[k as usize] = value;
-        }
+        t[k as usize] = value;
         two = two.down(value);
     }
 }
